@@ -94,6 +94,11 @@ impl Machine {
         self.radio.iter().any(|lent| lent.id == id)
     }
 
+    /// How many destinations the Rust holds.
+    pub fn held(&self) -> usize {
+        self.sends.unrouted_destinations().len()
+    }
+
     pub fn count(&self, table: Table) -> usize {
         self.live.iter().filter(|row| row.table == table).count()
     }
@@ -269,8 +274,7 @@ impl Machine {
     ) -> Step {
         let now = time(load.now)?;
         self.admit(Table::Unrouted, form::UNROUTED)?;
-        let held = self.sends.unrouted_destinations().len();
-        if held >= form::DESTINATIONS && !self.sends.has_unrouted(destination) {
+        if self.held() >= form::DESTINATIONS && !self.sends.has_unrouted(destination) {
             return Err(number::FULL);
         }
         let (frame, waiter) = self.handles(load);
@@ -323,7 +327,7 @@ impl Machine {
     }
 
     /// The sends that a route of `destination` at `now` has left after its tick.
-    fn left_to_route(&self, destination: Nwk, now: Instant) -> usize {
+    pub fn left_to_route(&self, destination: Nwk, now: Instant) -> usize {
         let left = |row: &&Row| row.table == Table::Unrouted && row.destination == destination && now < row.deadline;
         self.live.iter().filter(left).count()
     }

@@ -1,11 +1,29 @@
+//! The oracle's commands.
+
+mod case;
+mod file;
+mod flavour;
+mod r#gen;
+mod known;
+mod make;
+mod rng;
+mod script;
+mod stats;
+mod words;
+
 fn main() {
-    let mut t = vec![5u8];
-    t.extend([0; 8]);
-    t.extend([7, 0, 0, 0, 9, 0, 0, 0, 2]);
-    t.extend([0; 17]);
-    t.push(6);
-    t.extend([0; 8]);
-    let mut o = [0u8; 100];
-    let n = run::run(&t, &mut o);
-    println!("{}", o[..n].iter().map(|b| format!("{b:02X} ")).collect::<String>());
+    for k in known::all() {
+        let mut out = vec![0xA5; 4096];
+        let n = run::run_watched(&k.trace, &mut out);
+        let ok = out[..n] == k.answers;
+        println!("{} {}", if ok { "ok  " } else { "FAIL" }, k.name);
+        if !ok {
+            println!(
+                "{:#?}\n{:#?}\n{:#?}",
+                words::trace(&k.trace),
+                words::answers(&out[..n]),
+                words::answers(&k.answers)
+            );
+        }
+    }
 }

@@ -1,0 +1,76 @@
+//! Case files: a magic word and a count, then each case as three lengths, the trace and the answers (stored/README.md).
+
+use std::fs;
+use std::path::{Path, PathBuf};
+
+use crate::case::Case;
+
+const MAGIC: &[u8; 8] = b"SENDS\0\0\x01";
+/// The largest file that is written.
+pub const LIMIT: usize = 1 << 20;
+
+/// A case with its answers.
+#[derive(Debug, Clone, PartialEq, Eq)]
+pub struct Answered {
+    pub case: Case,
+    pub answers: Vec<u8>,
+}
+
+/// The bytes of a file with these cases.
+pub fn write(cases: &[Answered]) -> Vec<u8> {
+    let mut bytes = MAGIC.to_vec();
+    let mut number =
+        |bytes: &mut Vec<u8>, n: usize| bytes.extend(u32::try_from(n).expect("a short case").to_le_bytes());
+    number(&mut bytes, cases.len());
+    for Answered { case, answers } in cases {
+        for length in [case.capacity, case.trace.len(), answers.len()] {
+            number(&mut bytes, length);
+        }
+        bytes.extend(&case.trace);
+        bytes.extend(answers);
+    }
+    bytes
+}
+
+/// The cases of a file.
+pub fn read(bytes: &[u8]) -> Option<Vec<Answered>> {
+    let mut rest = bytes.strip_prefix(MAGIC)?;
+    let mut take = |length: usize| {
+        let (head, tail) = rest.split_at_checked(length)?;
+        rest = tail;
+        Some(head)
+    };
+    let mut cases = Vec::new();
+    let number = |bytes: &[u8]| Some(u32::from_le_bytes(bytes.try_into().ok()?) as usize);
+    for place in 0..number(take(4)?)? {
+        let [capacity, trace, answers] = [number(take(4)?)?, number(take(4)?)?, number(take(4)?)?];
+        let trace = take(trace)?.to_vec();
+        let answers = take(answers)?.to_vec();
+        cases.push(Answered { case: Case { what: format!("case {place}"), capacity, trace }, answers });
+    }
+    rest.is_empty().then_some(cases)
+}
+
+/// The case files of a folder, by name.
+pub fn list(dir: &Path) -> Result<Vec<PathBuf>, String> {
+    let entries = fs::read_dir(dir).map_err(|e| format!("{}: {e}", dir.display()))?;
+    let mut files: Vec<PathBuf> = entries.filter_map(|entry| Some(entry.ok()?.path())).collect();
+    files.retain(|path| path.extension().is_some_and(|end| end == "bin"));
+    files.sort();
+    Ok(files)
+}
+
+/// Every case of a folder, named by its file and place.
+pub fn read_all(dir: &Path) -> Result<Vec<Answered>, String> {
+    let mut all = Vec::new();
+    for path in list(dir)? {
+        let bytes = fs::read(&path).map_err(|e| format!("{}: {e}", path.display()))?;
+        let cases = read(&bytes).ok_or_else(|| format!("{} is not a whole case file", path.display()))?;
+        let name = path.file_name().unwrap_or_default().to_string_lossy().into_owned();
+        for mut answered in cases {
+            answered.case.what = format!("{name} {}", answered.case.what);
+            all.push(answered);
+        }
+    }
+    Ok(all)
+}
