@@ -2,6 +2,7 @@
 
 use run::form::{LONGEST, RESERVED, event};
 
+use crate::flavour::FLAVOURS;
 use crate::r#gen::Maker;
 use crate::make::Bytes;
 use crate::rng::Rng;
@@ -54,6 +55,17 @@ pub fn of_seed(seed: u64, size: Size, watched: bool) -> Case {
     }
     let capacity = capacity(&mut rng, answered + RESERVED);
     Case { what, capacity, trace }
+}
+
+/// A whole trace of one flavour and so many events, in ample room.
+pub fn of_flavour(seed: u64, flavour: usize, events: usize) -> Case {
+    let mut rng = Rng::new(seed);
+    let mut maker = Maker::of(&mut rng, &FLAVOURS[flavour % FLAVOURS.len()], true);
+    for _ in 0..events {
+        maker.event();
+    }
+    let what = format!("{}, {events} events", maker.flavour());
+    Case { what, capacity: maker.answered + RESERVED, trace: maker.trace }
 }
 
 /// Events up to a little below the longest trace.
@@ -131,10 +143,10 @@ fn damage(rng: &mut Rng, trace: &mut Vec<u8>, starts: &[usize]) -> &'static str 
 /// Room enough, or an end at any distance from where the answers end.
 fn capacity(rng: &mut Rng, needed: usize) -> usize {
     let room = match rng.below(20) {
-        0..=9 => needed + rng.index(64),
-        10..=11 => needed,
-        12..=16 => needed.saturating_sub(rng.index(64)),
-        17..=18 => rng.index(needed + 1),
+        0..=12 => needed + rng.index(64),
+        13..=14 => needed,
+        15..=17 => needed.saturating_sub(rng.index(64)),
+        18 => rng.index(needed + 1),
         _ => rng.index(13),
     };
     room.min(LARGEST)

@@ -19,7 +19,7 @@ pub struct Answered {
 /// The bytes of a file with these cases.
 pub fn write(cases: &[Answered]) -> Vec<u8> {
     let mut bytes = MAGIC.to_vec();
-    let mut number =
+    let number =
         |bytes: &mut Vec<u8>, n: usize| bytes.extend(u32::try_from(n).expect("a short case").to_le_bytes());
     number(&mut bytes, cases.len());
     for Answered { case, answers } in cases {

@@ -1,29 +1,191 @@
-//! The oracle's commands.
+//! The oracle's commands. `oracle` alone says what they are.
 
 mod case;
+mod compare;
+#[rustfmt::skip]
+mod directed;
 mod file;
 mod flavour;
+mod forms;
 mod r#gen;
 mod known;
 mod make;
 mod rng;
 mod script;
+mod selftest;
 mod stats;
+mod stored;
+mod subject;
+mod variants;
 mod words;
 
-fn main() {
-    for k in known::all() {
-        let mut out = vec![0xA5; 4096];
-        let n = run::run_watched(&k.trace, &mut out);
-        let ok = out[..n] == k.answers;
-        println!("{} {}", if ok { "ok  " } else { "FAIL" }, k.name);
-        if !ok {
-            println!(
-                "{:#?}\n{:#?}\n{:#?}",
-                words::trace(&k.trace),
-                words::answers(&out[..n]),
-                words::answers(&k.answers)
+use std::fs;
+use std::io::{Read, Write};
+use std::path::Path;
+use std::process::ExitCode;
+use std::time::Instant;
+
+use case::{Case, Size};
+use compare::Pair;
+use file::Answered;
+
+const HELP: &str = "\
+oracle run CAPACITY           the answers to the trace on standard input, as raw bytes
+oracle gen SEED N DIR         N cases from SEED on, with the Rust's answers, into case files in DIR
+oracle stats DIR              counts over the case files of DIR
+oracle show FILE [PLACE]      a case file's cases in words, or one of them
+oracle replay DIR             the case files of DIR run again on the Rust as it is built
+oracle compare SEED N         N generated cases: the Rust against the C function, every byte
+oracle compare DIR            the same over case files
+oracle stored make DIR        the stored set, made from its seed and the Rust
+oracle stored check DIR       the stored set made again and compared with DIR
+oracle selftest               the worked example, the nine stories, and the comparison's own tests
+oracle variants LIST DIR      each one-edit variant of LIST built and run on the case files of DIR (in oracle/)";
+
+type Told = Result<String, String>;
+
+fn number(text: &str) -> Result<u64, String> {
+    text.parse().map_err(|_| format!("{text} is not a number"))
+}
+
+fn run_once(capacity: &str) -> Told {
+    let mut trace = Vec::new();
+    std::io::stdin().read_to_end(&mut trace).map_err(|e| e.to_string())?;
+    let mut out = vec![0; number(capacity)? as usize];
+    let length = run::run(&trace, &mut out);
+    std::io::stdout().write_all(&out[..length]).map_err(|e| e.to_string())?;
+    Ok(String::new())
+}
+
+/// Cases of seeds one after the other, a file for as many as fit its limit.
+fn generate(seed: u64, cases: u64, dir: &Path) -> Told {
+    fs::create_dir_all(dir).map_err(|e| e.to_string())?;
+    let (mut batch, mut size, mut files) = (Vec::new(), 0, 0);
+    let mut flush = |batch: &mut Vec<Answered>| {
+        let name = dir.join(format!("{files:05}.bin"));
+        files += 1;
+        let written = fs::write(name, file::write(batch)).map_err(|e| e.to_string());
+        batch.clear();
+        written
+    };
+    for seed in seed..seed + cases {
+        let answered = stored::answered(case::of_seed(seed, Size::Any, true));
+        size += answered.case.trace.len() + answered.answers.len() + 12;
+        if size > file::LIMIT - 12 && !batch.is_empty() {
+            flush(&mut batch)?;
+            size = answered.case.trace.len() + answered.answers.len() + 12;
+        }
+        batch.push(answered);
+    }
+    flush(&mut batch)?;
+    Ok(format!("{cases} cases in {files} files"))
+}
+
+fn stats(dir: &Path) -> Told {
+    let mut stats = stats::Stats::default();
+    file::read_all(dir)?.iter().for_each(|answered| stats.add(answered));
+    Ok(stats.text())
+}
+
+fn show(path: &str, place: Option<usize>) -> Told {
+    let bytes = fs::read(path).map_err(|e| format!("{path}: {e}"))?;
+    let cases = file::read(&bytes).ok_or_else(|| format!("{path} is not a whole case file"))?;
+    let mut text = String::new();
+    for (number, Answered { case, answers }) in cases.iter().enumerate() {
+        if place.is_none_or(|place| place == number) {
+            text += &format!(
+                "== {} ({} bytes of room)\n{}\n",
+                case.what,
+                case.capacity,
+                words::dialogue(&case.trace, answers)
             );
+        }
+    }
+    Ok(text)
+}
+
+/// Runs every case of a folder on the Rust as it is built here, and says which differ. A panic counts as a difference.
+fn replay(dir: &Path) -> Told {
+    std::panic::set_hook(Box::new(|_| {}));
+    let cases = file::read_all(dir)?;
+    let same = |answered: &Answered| {
+        let run = || stored::answered_plainly(answered.case.clone()).answers == answered.answers;
+        std::panic::catch_unwind(run).map_err(|_| "panics")
+    };
+    let mut other = Vec::new();
+    for answered in &cases {
+        match same(answered) {
+            Ok(true) => {}
+            Ok(false) => other.push(format!("{} differs", answered.case.what)),
+            Err(panics) => other.push(format!("{} {panics}", answered.case.what)),
+        }
+    }
+    match other.first() {
+        None => Ok(format!("{} cases agree", cases.len())),
+        Some(first) => Err(format!("{} of {} cases: {first}", other.len(), cases.len())),
+    }
+}
+
+/// Compares cases one by one; the first that differs is cut down and told.
+fn compare(cases: impl Iterator<Item = Case>) -> Told {
+    let start = Instant::now();
+    let mut pair = Pair::new();
+    let (mut count, mut events) = (0u64, 0u64);
+    for case in cases {
+        if !pair.agree(case.capacity, &case.trace, &subject::archive) {
+            let small = compare::shrink(&case, &subject::archive);
+            return Err(format!("DIFFERENT after {count} cases\n{}", compare::explain(&small, &subject::archive)));
+        }
+        count += 1;
+        events += pair.events(&case.trace);
+    }
+    let seconds = start.elapsed().as_secs_f64();
+    let rate = events as f64 / seconds * 60.0 / 1e6;
+    let against = subject::ARCHIVE.map_or("the stand-in", |_| "the archive");
+    Ok(format!(
+        "{count} cases, {events} events, 0 different from {against}; {seconds:.1} s, {rate:.1} million events a minute"
+    ))
+}
+
+fn seeded(seed: u64, cases: u64) -> impl Iterator<Item = Case> {
+    (seed..seed + cases).map(|seed| {
+        let mut case = case::of_seed(seed, Size::Any, false);
+        case.what = format!("seed {seed}: {}", case.what);
+        case
+    })
+}
+
+fn command(args: &[&str]) -> Told {
+    match args {
+        ["run", capacity] => run_once(capacity),
+        ["gen", seed, cases, dir] => generate(number(seed)?, number(cases)?, Path::new(dir)),
+        ["stats", dir] => stats(Path::new(dir)),
+        ["show", file] => show(file, None),
+        ["show", file, place] => show(file, Some(number(place)? as usize)),
+        ["replay", dir] => replay(Path::new(dir)),
+        ["compare", dir] => compare(file::read_all(Path::new(dir))?.into_iter().map(|answered| answered.case)),
+        ["compare", seed, cases] => compare(seeded(number(seed)?, number(cases)?)),
+        ["stored", "make", dir] => stored::make(Path::new(dir)),
+        ["stored", "check", dir] => stored::check(Path::new(dir)),
+        ["selftest"] => selftest::all(),
+        ["variants", list, dir] => variants::all(list, Path::new(dir)),
+        _ => Err(HELP.into()),
+    }
+}
+
+fn main() -> ExitCode {
+    let args: Vec<String> = std::env::args().skip(1).collect();
+    let args: Vec<&str> = args.iter().map(String::as_str).collect();
+    match command(&args) {
+        Ok(told) => {
+            if !told.is_empty() {
+                println!("{}", told.trim_end());
+            }
+            ExitCode::SUCCESS
+        }
+        Err(told) => {
+            eprintln!("{told}");
+            ExitCode::FAILURE
         }
     }
 }

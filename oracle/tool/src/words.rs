@@ -253,3 +253,23 @@ pub fn answers(bytes: &[u8]) -> Vec<String> {
     }
     lines
 }
+
+/// A trace with the answers under each of its records.
+pub fn dialogue(bytes: &[u8], told: &[u8]) -> String {
+    let mut text = String::new();
+    let mut told = answers(told).into_iter().peekable();
+    for record in trace(bytes) {
+        if told.peek().is_none_or(|line| line.starts_with("end")) {
+            text += &format!("{record}   -- not answered\n");
+            continue;
+        }
+        text += &format!("{record}\n");
+        for line in told.by_ref() {
+            text += &format!("    {line}\n");
+            if line.starts_with("done") || line.starts_with("refused") {
+                break;
+            }
+        }
+    }
+    told.fold(text, |text, line| text + &format!("{line}\n"))
+}
