@@ -6,9 +6,10 @@ use std::path::{Path, PathBuf};
 use std::{env, fs};
 
 const LIST: &str = "../SOURCES.sha256";
-const DEFAULT: &str = "../../../shared/docs/src";
+/// Where the Rust is looked for when ZIGGURAT_SRC names no folder. Both are read from oracle/ on.
+const DEFAULT: &str = "../../shared/docs/src";
 
-/// Module name, file, and whether it is one of the files that the module itself brings in.
+/// Modules and their files. The three tables are brought in by the first.
 const MODULES: [(&str, &str); 5] = [
     ("sends", "crates/ziggurat-zigbee/src/sends/mod.rs"),
     ("flat_map", "crates/ziggurat-zigbee/src/flat_map.rs"),
@@ -19,7 +20,7 @@ const MODULES: [(&str, &str); 5] = [
 
 fn root() -> PathBuf {
     let named = env::var_os("ZIGGURAT_SRC").filter(|name| !name.is_empty());
-    let root = PathBuf::from(named.unwrap_or_else(|| DEFAULT.into()));
+    let root = Path::new("..").join(named.unwrap_or_else(|| DEFAULT.into()));
     root.canonicalize()
         .unwrap_or_else(|_| panic!("the given Rust is not at {} (ZIGGURAT_SRC names its folder)", root.display()))
 }

@@ -30,7 +30,7 @@ pub enum Size {
 /// The case of a seed.
 pub fn of_seed(seed: u64, size: Size, watched: bool) -> Case {
     let mut rng = Rng::new(seed);
-    let long = size == Size::Any && rng.chance(1, 400);
+    let long = size == Size::Any && rng.chance(1, 200);
     let events = match (size, rng.below(10)) {
         (Size::Small, _) => rng.range(3, 16),
         (Size::Any, 0..=1) => rng.range(0, 12),

@@ -6,6 +6,8 @@ use std::path::{Path, PathBuf};
 use crate::case::Case;
 
 const MAGIC: &[u8; 8] = b"SENDS\0\0\x01";
+/// The file that names the cases of a folder's case files.
+pub const INDEX: &str = "INDEX.txt";
 /// The largest file that is written.
 pub const LIMIT: usize = 1 << 20;
 
@@ -19,8 +21,7 @@ pub struct Answered {
 /// The bytes of a file with these cases.
 pub fn write(cases: &[Answered]) -> Vec<u8> {
     let mut bytes = MAGIC.to_vec();
-    let number =
-        |bytes: &mut Vec<u8>, n: usize| bytes.extend(u32::try_from(n).expect("a short case").to_le_bytes());
+    let number = |bytes: &mut Vec<u8>, n: usize| bytes.extend(u32::try_from(n).expect("a short case").to_le_bytes());
     number(&mut bytes, cases.len());
     for Answered { case, answers } in cases {
         for length in [case.capacity, case.trace.len(), answers.len()] {
@@ -60,15 +61,24 @@ pub fn list(dir: &Path) -> Result<Vec<PathBuf>, String> {
     Ok(files)
 }
 
-/// Every case of a folder, named by its file and place.
+/// The names of a file's cases, out of the folder's index where it has one.
+fn names(dir: &Path, file: &str) -> Vec<String> {
+    let index = fs::read_to_string(dir.join(INDEX)).unwrap_or_default();
+    let heads = |line: &&str| !line.starts_with(&format!("{file}:"));
+    let rows = index.lines().skip_while(heads).skip(1).take_while(|line| !line.is_empty());
+    rows.map(|row| row.splitn(2, ": ").last().unwrap_or_default().to_string()).collect()
+}
+
+/// Every case of a folder, named by its file and place, and by its index.
 pub fn read_all(dir: &Path) -> Result<Vec<Answered>, String> {
     let mut all = Vec::new();
     for path in list(dir)? {
         let bytes = fs::read(&path).map_err(|e| format!("{}: {e}", path.display()))?;
         let cases = read(&bytes).ok_or_else(|| format!("{} is not a whole case file", path.display()))?;
         let name = path.file_name().unwrap_or_default().to_string_lossy().into_owned();
+        let mut names = names(dir, &name).into_iter();
         for mut answered in cases {
-            answered.case.what = format!("{name} {}", answered.case.what);
+            answered.case.what = format!("{name} {} ({})", answered.case.what, names.next().unwrap_or_default());
             all.push(answered);
         }
     }

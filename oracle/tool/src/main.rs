@@ -10,6 +10,7 @@ mod forms;
 mod r#gen;
 mod known;
 mod make;
+mod panics;
 mod rng;
 mod script;
 mod selftest;
@@ -120,7 +121,9 @@ fn replay(dir: &Path) -> Told {
             Err(panics) => other.push(format!("{} {panics}", answered.case.what)),
         }
     }
-    match other.first() {
+    // An answer that differs says more than a panic does.
+    let first = other.iter().find(|told| told.ends_with("differs")).or(other.first());
+    match first {
         None => Ok(format!("{} cases agree", cases.len())),
         Some(first) => Err(format!("{} of {} cases: {first}", other.len(), cases.len())),
     }

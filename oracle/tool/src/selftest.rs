@@ -4,7 +4,8 @@ use run::form::RESERVED;
 
 use crate::case::{self, Case, Size};
 use crate::compare::{self, Pair, Subject};
-use crate::{known, subject, words};
+use crate::stats::Stats;
+use crate::{known, panics, stored, subject, words};
 
 type Told = Result<String, String>;
 
@@ -98,7 +99,18 @@ fn finds_faults() -> Told {
     Ok("three wrong runs are found and cut down to three records or fewer".into())
 }
 
+/// Every event, answer, refusal, verdict and status that a trace can reach is met often by generated cases.
+fn well_met() -> Told {
+    let mut stats = Stats::default();
+    let cases = (0..4000).map(|seed| case::of_seed(seed, Size::Any, false));
+    cases.for_each(|case| stats.add(&stored::answered_plainly(case)));
+    match stats.least() {
+        (what, count) if count < 5 => Err(format!("{what} is met only {count} times")),
+        (what, count) => Ok(format!("{} events; the rarest is {what}, met {count} times", stats.total())),
+    }
+}
+
 pub fn all() -> Told {
-    let told = [known_answers()?, agrees()?, finds_faults()?];
+    let told = [known_answers()?, agrees()?, finds_faults()?, well_met()?, panics::all()?];
     Ok(told.join("\n"))
 }

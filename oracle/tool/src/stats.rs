@@ -92,6 +92,23 @@ impl Stats {
         self.events.values().sum()
     }
 
+    /// The rarest of all that a trace can reach, and how often it was met. Refusals 2 and 11 are for library calls alone.
+    pub fn least(&self) -> (String, u64) {
+        let refusals: &[u8] = &[1, 3, 4, 5, 6, 7, 8, 9, 10, 14];
+        let groups: [(&str, &Counts, Vec<u8>); 6] = [
+            ("event", &self.events, (1..=22).collect()),
+            ("accepted event", &self.accepted, (1..=22).collect()),
+            ("answer", &self.answers, (128..=140).collect()),
+            ("refusal", &self.refusals, refusals.to_vec()),
+            ("verdict", &self.verdicts, (0..=7).collect()),
+            ("status", &self.statuses, vec![0, 12, 13, 15, 16]),
+        ];
+        let all = groups.iter().flat_map(|(name, counts, keys)| {
+            keys.iter().map(move |key| (format!("{name} {key}"), counts.get(key).copied().unwrap_or(0)))
+        });
+        all.min_by_key(|(_, count)| *count).expect("many kinds")
+    }
+
     /// The counts as lines of text.
     pub fn text(&self) -> String {
         let refused: u64 = self.refusals.values().sum();

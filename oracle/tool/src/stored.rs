@@ -3,6 +3,7 @@
 use std::fs;
 use std::path::Path;
 
+use given::sends::TxPriority;
 use run::form::{LONGEST, RESERVED, event};
 
 use crate::case::{self, Case, LARGEST, Size};
@@ -105,6 +106,11 @@ fn sets() -> Vec<(&'static str, Vec<Answered>)> {
     ]
 }
 
+/// The Rust's priority of every number that a host may hand in, the number taken as a byte.
+fn from_host() -> Vec<u8> {
+    (0..=255u8).map(|byte| TxPriority::from_host(byte as i8) as u8).collect()
+}
+
 /// Every file of the folder: its name and its bytes.
 fn files() -> Vec<(String, Vec<u8>)> {
     let mut files = Vec::new();
@@ -117,12 +123,15 @@ fn files() -> Vec<(String, Vec<u8>)> {
         index += &format!("\n{name}.bin: {} cases, {} bytes\n", cases.len(), bytes.len());
         for (place, Answered { case, answers }) in cases.iter().enumerate() {
             let lengths = format!("{:5} {:5} {:7}", case.trace.len(), answers.len(), case.capacity);
-            index += &format!("{place:4} {lengths}  {}\n", case.what);
+            index += &format!("{place:4} {lengths}: {}\n", case.what);
         }
         cases.iter().for_each(|case| stats.add(case));
         files.push((format!("{name}.bin"), bytes));
     }
-    files.push(("INDEX.txt".into(), index.into()));
+    let (rarest, count) = stats.least();
+    assert!(count > 0, "no stored case has {rarest}");
+    files.push((file::INDEX.into(), index.into()));
+    files.push(("from-host.raw".into(), from_host()));
     files.push(("COUNTS.txt".into(), format!("# Counts over the whole stored set.\n\n{}", stats.text()).into()));
     files
 }
