@@ -3,7 +3,7 @@
 use given::Instant;
 use given::constants::Tunables;
 use given::flat_map::FlatMap;
-use given::sends::{Action, Actions, Broadcast, InFlight, Schedule, SendId, Sends, Unicast, UnroutedUnicast};
+use given::sends::{Action, Actions, Broadcast, Confirm, InFlight, Schedule, SendId, Sends, Unicast, UnroutedUnicast};
 use given::types::{Eui64, Nwk};
 
 use crate::answer::{Answers, Fault, Frame, Waiter, number as as_number};
@@ -125,66 +125,55 @@ impl Machine {
     fn step(&mut self, event: Event, answers: &mut Answers) -> Step {
         match event {
             Event::Settings { handoff, persistence, retries, attempts } => {
-                self.set(handoff, persistence, retries, attempts)
+                self.set(handoff, persistence, retries, attempts);
+                Ok(())
             }
-            Event::Unicast { load, way } => return self.unicast(None, load, way, answers),
-            Event::Copy { of, load, way } => return self.unicast(Some(of), load, way, answers),
-            Event::Unrouted { load, destination, confirm } => {
-                let send =
-                    |frame, waiter| UnroutedUnicast { frame, priority: load.priority, waiter, confirm, destination };
-                return self.unrouted(&load, destination, send, answers);
-            }
-            Event::Broadcast { load, plan } => return self.broadcast(load, plan, answers),
-            Event::Dequeue { now } => self.dequeue(time(now)?, answers),
-            Event::Report(report) => return self.report(report, answers),
+            Event::Unicast { load, way } => self.unicast(None, load, way, answers),
+            Event::Copy { of, load, way } => self.unicast(Some(of), load, way, answers),
+            Event::Unrouted { load, destination, confirm } => self.unrouted(load, destination, confirm, answers),
+            Event::Broadcast { load, plan } => self.broadcast(load, plan, answers),
+            Event::Dequeue { now } => self.dequeue(now, answers),
+            Event::Report(report) => self.report(report, answers),
             Event::Poll { now, extended, short } => {
                 let (found, actions) = self.sends.poll(extended, short, time(now)?);
                 self.tell(actions, answers);
                 answers.yes_no(found);
+                Ok(())
             }
-            Event::Ack(key) => {
-                let actions = self.sends.aps_ack_received(&key);
-                self.tell(actions, answers);
+            Event::Route { now, destination, results } => self.route(now, destination, &results, answers),
+            Event::Cancel(id) => self.cancel(id, answers),
+            Event::Abandon => {
+                self.abandon(answers);
+                Ok(())
             }
-            Event::Retry(destination) => {
-                if !self.sends.has_unrouted(destination) {
-                    return Err(number::NOT_HELD);
-                }
-                answers.yes_no(self.sends.retry_discovery(destination));
-            }
-            Event::Fail(destination) => {
-                let actions = self.sends.fail_unrouted(destination);
-                self.tell(actions, answers);
-            }
-            Event::Route { now, destination, results } => return self.route(now, destination, &results, answers),
-            Event::Delivered(key) => {
-                let actions = self.sends.broadcast_delivered(key);
-                self.tell(actions, answers);
-            }
-            Event::Drop { extended, short } => {
-                let actions = self.sends.drop_indirect_unicasts(extended, short);
-                self.tell(actions, answers);
-            }
-            Event::Cancel(id) => return self.cancel(id, answers),
-            Event::Tick { now } => {
-                let actions = self.sends.tick(time(now)?);
-                self.tell(actions, answers);
-            }
-            Event::Abandon => self.abandon(answers),
-            Event::NextWake => {
-                if let Some(at) = self.sends.next_wake() {
-                    answers.time(at.as_micros());
-                }
-            }
-            Event::Map { extended, short } => {
-                if self.map.len() >= form::MAP_KEYS && !self.map.contains_key(&extended) {
-                    return Err(number::FULL);
-                }
-                self.map.insert(extended, short);
-            }
+            Event::Map { extended, short } => self.pair(extended, short),
+            other => self.act(other, answers),
+        }
+    }
+
+    /// Calls that only return actions; what is left are questions.
+    fn act(&mut self, event: Event, answers: &mut Answers) -> Step {
+        let actions = match event {
+            Event::Ack(key) => self.sends.aps_ack_received(&key),
+            Event::Fail(destination) => self.sends.fail_unrouted(destination),
+            Event::Delivered(key) => self.sends.broadcast_delivered(key),
+            Event::Drop { extended, short } => self.sends.drop_indirect_unicasts(extended, short),
+            Event::Tick { now } => self.sends.tick(time(now)?),
+            question => return self.ask(question, answers),
+        };
+        self.tell(actions, answers);
+        Ok(())
+    }
+
+    fn ask(&mut self, event: Event, answers: &mut Answers) -> Step {
+        match event {
+            Event::Retry(destination) if !self.sends.has_unrouted(destination) => return Err(number::NOT_HELD),
+            Event::Retry(destination) => answers.yes_no(self.sends.retry_discovery(destination)),
+            Event::NextWake => self.wake().into_iter().for_each(|at| answers.time(at)),
             Event::Lists => self.lists(answers),
             Event::HasUnrouted(destination) => answers.yes_no(self.sends.has_unrouted(destination)),
             Event::HasAwaiting(address) => answers.yes_no(self.sends.has_unicast_awaiting_poll(address)),
+            _ => unreachable!("every other event is taken above"),
         }
         Ok(())
     }
@@ -265,22 +254,17 @@ impl Machine {
         Ok(())
     }
 
-    fn unrouted(
-        &mut self,
-        load: &Load,
-        destination: Nwk,
-        send: impl FnOnce(Frame, Waiter) -> UnroutedUnicast<Frame, Waiter>,
-        answers: &mut Answers,
-    ) -> Step {
+    fn unrouted(&mut self, load: Load, destination: Nwk, confirm: Confirm, answers: &mut Answers) -> Step {
         let now = time(load.now)?;
         self.admit(Table::Unrouted, form::UNROUTED)?;
         if self.held() >= form::DESTINATIONS && !self.sends.has_unrouted(destination) {
             return Err(number::FULL);
         }
-        let (frame, waiter) = self.handles(load);
-        let returned = self.sends.enqueue_unrouted_unicast(send(frame, waiter), now, &self.tunables);
+        let (frame, waiter) = self.handles(&load);
+        let send = UnroutedUnicast { frame, priority: load.priority, waiter, confirm, destination };
+        let returned = self.sends.enqueue_unrouted_unicast(send, now, &self.tunables);
         let deadline = now + self.tunables.handoff_timeout();
-        self.drawn(Table::Unrouted, load, returned, answers);
+        self.drawn(Table::Unrouted, &load, returned, answers);
         let row = self.newest();
         row.destination = destination;
         row.deadline = deadline;
@@ -298,13 +282,14 @@ impl Machine {
         Ok(())
     }
 
-    fn dequeue(&mut self, now: Instant, answers: &mut Answers) {
-        let Some(mut token) = self.sends.dequeue(now) else {
-            return;
+    fn dequeue(&mut self, now: u64, answers: &mut Answers) -> Step {
+        let Some(mut token) = self.sends.dequeue(time(now)?) else {
+            return Ok(());
         };
         let frame = *token.frame_mut();
         answers.in_flight(frame, token.transmit());
         self.radio.push(Lent { id: frame.id, frame: frame.handle, token });
+        Ok(())
     }
 
     fn report(&mut self, report: Report, answers: &mut Answers) -> Step {
@@ -372,6 +357,15 @@ impl Machine {
             return Err(number::IN_RADIO);
         };
         self.tell(actions, answers);
+        Ok(())
+    }
+
+    /// One pair of the address map.
+    fn pair(&mut self, extended: Eui64, short: Nwk) -> Step {
+        if self.map.len() >= form::MAP_KEYS && !self.map.contains_key(&extended) {
+            return Err(number::FULL);
+        }
+        self.map.insert(extended, short);
         Ok(())
     }
 

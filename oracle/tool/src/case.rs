@@ -88,54 +88,65 @@ fn pad(rng: &mut Rng, trace: &mut Vec<u8>) {
 
 /// Damages a trace in one way and says which.
 fn damage(rng: &mut Rng, trace: &mut Vec<u8>, starts: &[usize]) -> &'static str {
-    if starts.is_empty() || trace.is_empty() {
+    if trace.is_empty() {
         return ", empty";
     }
-    let place = rng.index(starts.len());
-    let start = starts[place];
-    let end = starts.get(place + 1).copied().unwrap_or(trace.len());
-    let record = trace[start..end].to_vec();
-    match rng.below(9) {
+    if rng.chance(1, 2) { damage_bytes(rng, trace) } else { damage_records(rng, trace, starts) }
+}
+
+/// Bytes cut off, changed or added.
+fn damage_bytes(rng: &mut Rng, trace: &mut Vec<u8>) -> &'static str {
+    let byte = rng.index(trace.len());
+    match rng.below(4) {
         0 => {
-            trace.truncate(rng.index(trace.len()));
+            trace.truncate(byte);
             ", cut"
         }
         1 => {
-            trace.insert(start, rng.pick(&[0, 23, 24, 127, 128, 129, 255]));
-            ", unknown kind"
-        }
-        2 => {
-            trace.push(rng.pick(&[0, 23, 255]));
-            ", unknown kind at the end"
-        }
-        3 => {
             for _ in 0..rng.range(1, 3) {
                 let byte = rng.index(trace.len());
                 trace[byte] ^= 1 << rng.below(8);
             }
             ", bits flipped"
         }
-        4 => {
-            let byte = rng.index(trace.len());
+        2 => {
             trace[byte] = rng.next() as u8;
             ", a byte changed"
-        }
-        5 => {
-            trace.drain(start..end);
-            ", a record left out"
-        }
-        6 => {
-            trace.splice(start..start, record);
-            ", a record doubled"
-        }
-        7 => {
-            trace.drain(start..end);
-            trace.extend(record);
-            ", a record moved to the end"
         }
         _ => {
             trace.extend((0..rng.range(1, 9)).map(|_| rng.next() as u8));
             ", bytes added"
+        }
+    }
+}
+
+/// A record left out, doubled or moved, or a kind that is none.
+fn damage_records(rng: &mut Rng, trace: &mut Vec<u8>, starts: &[usize]) -> &'static str {
+    let place = rng.index(starts.len());
+    let start = starts[place];
+    let end = starts.get(place + 1).copied().unwrap_or(trace.len());
+    let record = trace[start..end].to_vec();
+    match rng.below(5) {
+        0 => {
+            trace.insert(start, rng.pick(&[0, 23, 24, 127, 128, 129, 255]));
+            ", unknown kind"
+        }
+        1 => {
+            trace.push(rng.pick(&[0, 23, 255]));
+            ", unknown kind at the end"
+        }
+        2 => {
+            trace.drain(start..end);
+            ", a record left out"
+        }
+        3 => {
+            trace.splice(start..start, record);
+            ", a record doubled"
+        }
+        _ => {
+            trace.drain(start..end);
+            trace.extend(record);
+            ", a record moved to the end"
         }
     }
 }

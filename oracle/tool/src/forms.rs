@@ -1,16 +1,14 @@
-//! Traces about the form of records: each byte of a good record of each kind, changed, so that refusal 14 meets every field.
+//! Traces about the form of records: each byte of a good record of each kind, changed, so that refusal 14 meets each field.
 
 use run::form::event;
 
 use crate::make::{Addr, Bytes, Key, Load, Plan, Report, Routed};
-use crate::script::key;
+use crate::script::{BARE, key};
 
 /// A name and a good record.
 type Sample = (&'static str, Bytes);
 
 const LOAD: Load = Load { now: 0, frame: 1, waiter: 2, priority: 2 };
-const NO_PARTS: Key =
-    Key { presence: 0, src: 5, destination_endpoint: 0, cluster: 0, profile: 0, source_endpoint: 0, counter: 1 };
 
 fn sample(name: &'static str, write: impl FnOnce(&mut Bytes)) -> Sample {
     let mut bytes = Bytes::default();
@@ -25,11 +23,11 @@ fn enqueues() -> Vec<Sample> {
         sample("unicast to a hop", |b| b.unicast(LOAD, 7, Addr::None, None)),
         sample("unicast for a short address and a full key", |b| b.unicast(LOAD, 7, Addr::Short(5), Some((key(1), 9)))),
         sample("unicast for an extended address and a bare key", |b| {
-            b.unicast(LOAD, 7, Addr::Long(5), Some((NO_PARTS, 9)))
+            b.unicast(LOAD, 7, Addr::Long(5), Some((BARE, 9)))
         }),
         sample("copy", |b| b.copy(0, LOAD, 7, Addr::Short(5), None)),
         sample("unrouted", |b| b.unrouted(LOAD, 4, None)),
-        sample("unrouted with a key", |b| b.unrouted(LOAD, 4, Some((Key { presence: 5, ..NO_PARTS }, 9)))),
+        sample("unrouted with a key", |b| b.unrouted(LOAD, 4, Some((Key { presence: 5, ..BARE }, 9)))),
         sample("once", |b| b.broadcast(LOAD, Plan::default())),
         sample("passive", |b| b.broadcast(LOAD, passive)),
         sample("fixed", |b| b.broadcast(LOAD, fixed)),
@@ -46,7 +44,7 @@ fn calls() -> Vec<Sample> {
         sample("poll of nobody", |b| b.poll(0, None, None)),
         sample("poll under both addresses", |b| b.poll(0, Some(5), Some(5))),
         sample("ack", |b| b.ack(key(1))),
-        sample("ack of a bare key", |b| b.ack(NO_PARTS)),
+        sample("ack of a bare key", |b| b.ack(BARE)),
         sample("delivered", |b| b.delivered(3, 1)),
         sample("drop", |b| b.drop(Some(5), 5)),
         sample("drop under the short address", |b| b.drop(None, 5)),

@@ -4,6 +4,7 @@ mod case;
 mod compare;
 #[rustfmt::skip]
 mod directed;
+mod exhaustive;
 mod file;
 mod flavour;
 mod forms;
@@ -38,6 +39,8 @@ oracle show FILE [PLACE]      a case file's cases in words, or one of them
 oracle replay DIR             the case files of DIR run again on the Rust as it is built
 oracle compare SEED N         N generated cases: the Rust against the C function, every byte
 oracle compare DIR            the same over case files
+oracle compare short          the same over every trace of up to two bytes
+oracle compare sequences N    the same over every sequence of N out of 23 events
 oracle stored make DIR        the stored set, made from its seed and the Rust
 oracle stored check DIR       the stored set made again and compared with DIR
 oracle selftest               the worked example, the nine stories, and the comparison's own tests
@@ -141,6 +144,9 @@ fn compare(cases: impl Iterator<Item = Case>) -> Told {
         }
         count += 1;
         events += pair.events(&case.trace);
+        if count % 200_000 == 0 {
+            eprintln!("{count} cases, {events} events: the same so far ({})", case.what);
+        }
     }
     let seconds = start.elapsed().as_secs_f64();
     let rate = events as f64 / seconds * 60.0 / 1e6;
@@ -166,6 +172,8 @@ fn command(args: &[&str]) -> Told {
         ["show", file] => show(file, None),
         ["show", file, place] => show(file, Some(number(place)? as usize)),
         ["replay", dir] => replay(Path::new(dir)),
+        ["compare", "short"] => compare(exhaustive::short()),
+        ["compare", "sequences", length] => compare(exhaustive::sequences(number(length)? as u32)),
         ["compare", dir] => compare(file::read_all(Path::new(dir))?.into_iter().map(|answered| answered.case)),
         ["compare", seed, cases] => compare(seeded(number(seed)?, number(cases)?)),
         ["stored", "make", dir] => stored::make(Path::new(dir)),

@@ -1,4 +1,4 @@
-//! Records written out of plain values: the one place that lays an event's bytes down. Values outside the form are let through.
+//! Records written out of plain values: the one place that lays an event's bytes down. It lets values outside the form pass.
 
 use run::form::{RESULTS, event};
 

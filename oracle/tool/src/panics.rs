@@ -9,6 +9,7 @@ use given::types::Nwk;
 use run::answer::{Fault, Frame, Waiter};
 
 type Tables = Sends<Frame, Waiter, Fault>;
+type Call = fn(&mut Tables);
 
 const NOW: Instant = Instant::from_micros(0);
 const FRAME: Frame = Frame { id: 0, handle: 0 };
@@ -62,7 +63,7 @@ fn broadcast_abandoned(tables: &mut Tables) {
 
 /// Every call above panics.
 pub fn all() -> Result<String, String> {
-    let calls: [(&str, fn(&mut Tables)); 4] = [
+    let calls: [(&str, Call); 4] = [
         ("a broadcast without copies, ticked", no_copies),
         ("a retry of what is not held", not_held),
         ("a report on an abandoned unicast", unicast_abandoned),

@@ -31,6 +31,10 @@ pub const fn key(counter: u8) -> Key {
     Key { presence: 15, src: 5, destination_endpoint: 1, cluster: 6, profile: 260, source_endpoint: 2, counter }
 }
 
+/// A key without any of the parts that may be absent.
+pub const BARE: Key =
+    Key { presence: 0, src: 5, destination_endpoint: 0, cluster: 0, profile: 0, source_endpoint: 0, counter: 1 };
+
 #[derive(Debug, Clone, Default)]
 pub struct Script {
     pub bytes: Bytes,

@@ -13,8 +13,13 @@ use crate::script::{Script, key};
 use crate::stats::Stats;
 use crate::{directed, forms, known};
 
+#[path = "../../given/sha256.rs"]
+mod sha256;
+
 /// The seed of the first generated case; the others follow one by one.
 pub const SEED: u64 = 20_261_104;
+/// The largest output that a stored case asks for.
+const ROOM: usize = 4096;
 const SMALL: u64 = 260;
 const MEDIUM: u64 = 24;
 
@@ -97,12 +102,12 @@ fn long() -> Vec<Answered> {
 fn sets() -> Vec<(&'static str, Vec<Answered>)> {
     let forms = forms::all().into_iter().map(|(name, trace)| ample(name, trace)).collect();
     vec![
-        ("1-rules", given()),
-        ("2-forms", forms),
-        ("3-rooms", rooms()),
-        ("4-mixed", mixed()),
-        ("5-full", full()),
-        ("6-long", long()),
+        ("1-rules.bin", given()),
+        ("2-forms.bin", forms),
+        ("3-rooms.bin", rooms()),
+        ("4-mixed.bin", mixed()),
+        ("5-full.bin", full()),
+        ("6-long.bin", long()),
     ]
 }
 
@@ -111,33 +116,61 @@ fn from_host() -> Vec<u8> {
     (0..=255u8).map(|byte| TxPriority::from_host(byte as i8) as u8).collect()
 }
 
+/// One case file's part of the index.
+fn index(name: &str, cases: &[Answered], size: usize) -> String {
+    let mut text = format!("\n{name}: {} cases, {size} bytes\n", cases.len());
+    for (place, Answered { case, answers }) in cases.iter().enumerate() {
+        let lengths = format!("{:5} {:5} {:7}", case.trace.len(), answers.len(), case.capacity);
+        text += &format!("{place:4} {lengths}: {}\n", case.what);
+    }
+    text
+}
+
+/// How the set was made: command, seed, the hashes of the Rust and of the files, and the counts.
+fn made(files: &[(String, Vec<u8>)], stats: &Stats) -> String {
+    let mut text =
+        String::from("# How the stored set was made, and what is in it. Written by `oracle stored make`.\n\n");
+    text += "command: oracle/target/release/oracle stored make stored\n";
+    text +=
+        &format!("seed of the first generated case: {SEED}; {SMALL} short ones and {MEDIUM} of 60 events follow it\n");
+    text += "\nSHA-256 of the Rust that answered (zigpy/ziggurat f917f9898a)\n";
+    text += include_str!("../../SOURCES.sha256");
+    text += "\nSHA-256 of the files\n";
+    for (name, bytes) in files {
+        text += &format!("{}  {name}\n", sha256::hex(bytes));
+    }
+    format!("{text}\n{}", stats.text())
+}
+
 /// Every file of the folder: its name and its bytes.
 fn files() -> Vec<(String, Vec<u8>)> {
     let mut files = Vec::new();
-    let mut index =
-        String::from("# What each stored case is: its place in its file, trace and answer lengths, capacity, name.\n");
+    let mut names = String::from(
+        "# What each stored case is: its place, the lengths of trace and answers, the capacity, its name.\n",
+    );
     let mut stats = Stats::default();
     for (name, cases) in sets() {
         let bytes = file::write(&cases);
         assert!(bytes.len() <= file::LIMIT, "{name} is too large a file");
-        index += &format!("\n{name}.bin: {} cases, {} bytes\n", cases.len(), bytes.len());
-        for (place, Answered { case, answers }) in cases.iter().enumerate() {
-            let lengths = format!("{:5} {:5} {:7}", case.trace.len(), answers.len(), case.capacity);
-            index += &format!("{place:4} {lengths}: {}\n", case.what);
-        }
+        assert!(cases.iter().all(|answered| answered.case.capacity <= ROOM), "{name} asks for a larger output");
+        names += &index(name, &cases, bytes.len());
         cases.iter().for_each(|case| stats.add(case));
-        files.push((format!("{name}.bin"), bytes));
+        files.push((name.to_string(), bytes));
     }
     let (rarest, count) = stats.least();
     assert!(count > 0, "no stored case has {rarest}");
-    files.push((file::INDEX.into(), index.into()));
     files.push(("from-host.raw".into(), from_host()));
-    files.push(("COUNTS.txt".into(), format!("# Counts over the whole stored set.\n\n{}", stats.text()).into()));
+    let made = made(&files, &stats);
+    files.push((file::INDEX.into(), names.into()));
+    files.push(("MADE.txt".into(), made.into()));
     files
 }
 
 /// Writes the set.
 pub fn make(dir: &Path) -> Result<String, String> {
+    if given::EDITED {
+        return Err("an edited copy of the Rust answers nothing that is stored".into());
+    }
     fs::create_dir_all(dir).map_err(|e| format!("{}: {e}", dir.display()))?;
     let files = files();
     for (name, bytes) in &files {
