@@ -1,0 +1,21 @@
+use Rattle.tables.specs.Layouts.{broadcastLayout}
+use Rattle.tables.proofs.BroadcastRows.{lawful}
+use Rattle.tables.proofs.Held.{held-searched}
+use Rattle.tables.proofs.Answers.{sought}
+use borrow.Author.Needs.{needs}
+use Rattle.tables.proofs.broadcasts.find.Statement.{statement}
+use Rattle.tables.proofs.broadcasts.find.Tie as tie
+use Rattle.tables.proofs.broadcasts.find.Reads as reads
+use Rattle.tables.proofs.broadcasts.find.Lts as lts
+use Rattle.tables.proofs.rows.seek.Reads as seek-reads
+
+seek-requires : tie.Need-seek-requires
+unfolding broadcastLayout
+seek-requires c κs = held-searched lawful (c .before .pre)
+
+returns : tie.Need-returns
+unfolding broadcastLayout
+returns c = sought lawful (c .before .before .pre) _ _ (c .seek .ensures)
+
+pub find-spec : {M : Type 1} → statement M
+find-spec = tie.close (tie.spec seek-requires returns)

@@ -1,0 +1,21 @@
+use Rattle.tables.specs.Layouts.{broadcastLayout}
+use Rattle.tables.proofs.BroadcastRows.{lawful}
+use Rattle.tables.proofs.Held.{held-searched}
+use Rattle.tables.proofs.Answers.{left}
+use borrow.Author.Needs.{needs}
+use Rattle.tables.proofs.broadcasts.remove.Statement.{statement}
+use Rattle.tables.proofs.broadcasts.remove.Tie as tie
+use Rattle.tables.proofs.broadcasts.remove.Reads as reads
+use Rattle.tables.proofs.broadcasts.remove.Lts as lts
+use Rattle.tables.proofs.rows.leave.Reads as leave-reads
+
+leave-requires : tie.Need-leave-requires
+unfolding broadcastLayout
+leave-requires c κs = held-searched lawful (c .before .pre)
+
+returns : tie.Need-returns
+unfolding broadcastLayout
+returns c = left lawful (c .before .before .pre) _ (c .leave .ensures)
+
+pub remove-spec : {M : Type 1} → statement M
+remove-spec = tie.close (tie.spec leave-requires returns)

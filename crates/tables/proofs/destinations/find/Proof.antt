@@ -1,0 +1,21 @@
+use Rattle.tables.specs.Layouts.{destinationLayout}
+use Rattle.tables.proofs.DestinationRows.{lawful}
+use Rattle.tables.proofs.Held.{held-searched}
+use Rattle.tables.proofs.Answers.{sought}
+use borrow.Author.Needs.{needs}
+use Rattle.tables.proofs.destinations.find.Statement.{statement}
+use Rattle.tables.proofs.destinations.find.Tie as tie
+use Rattle.tables.proofs.destinations.find.Reads as reads
+use Rattle.tables.proofs.destinations.find.Lts as lts
+use Rattle.tables.proofs.rows.seek.Reads as seek-reads
+
+seek-requires : tie.Need-seek-requires
+unfolding destinationLayout
+seek-requires c κs = held-searched lawful (c .before .pre)
+
+returns : tie.Need-returns
+unfolding destinationLayout
+returns c = sought lawful (c .before .before .pre) _ _ (c .seek .ensures)
+
+pub find-spec : {M : Type 1} → statement M
+find-spec = tie.close (tie.spec seek-requires returns)
