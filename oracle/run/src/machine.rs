@@ -189,7 +189,7 @@ impl Machine {
         }
     }
 
-    /// A table has room for one more, and an id is left to draw: asked in the order of the refusals.
+    /// An id is left to draw, and then the table has room for one more.
     fn admit(&self, table: Table, room: usize) -> Step {
         if self.next_id == u32::MAX {
             return Err(number::IDS_SPENT);
@@ -370,7 +370,9 @@ impl Machine {
     }
 
     fn abandon(&mut self, answers: &mut Answers) {
-        for waiter in self.sends.abandon() {
+        let waiters = self.sends.abandon();
+        assert_eq!(waiters.len(), self.live.len(), "every live send is abandoned");
+        for waiter in waiters {
             answers.abandoned(waiter);
         }
         self.live.clear();

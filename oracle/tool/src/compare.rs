@@ -1,6 +1,6 @@
 //! The comparison: the Rust and a subject answer the same case, and every byte of both outputs must be the same.
 
-use run::form::{RESERVED, Standing, standing};
+use run::form::{Standing, standing};
 
 use crate::case::Case;
 use crate::words;
@@ -8,7 +8,10 @@ use crate::words;
 /// Something that runs a trace as the C function does.
 pub type Subject<'a> = &'a dyn Fn(&[u8], &mut [u8]) -> usize;
 
-/// Both outputs of one case, with their lengths. Past the length stands what was there before.
+/// Bytes that lie before and after each output and belong to nobody.
+const GUARD: usize = 64;
+
+/// Both outputs of one case between their guards, with the lengths returned. Past a length stands what was there before.
 pub struct Pair {
     judge: Vec<u8>,
     subject: Vec<u8>,
@@ -25,25 +28,36 @@ impl Pair {
         Self { judge: Vec::new(), subject: Vec::new(), lengths: (0, 0) }
     }
 
-    /// Runs both and says whether they agree in length and in every byte, those past the length included.
+    /// Runs both and says whether they agree in length and in every byte, those past the length and the guards included.
     pub fn agree(&mut self, capacity: usize, trace: &[u8], subject: Subject) -> bool {
-        let fresh = pattern(capacity);
+        let fresh = pattern(capacity + 2 * GUARD);
         self.judge.clone_from(&fresh);
         self.subject.clone_from(&fresh);
-        self.lengths = (run::run(trace, &mut self.judge), subject(trace, &mut self.subject));
-        let written = self.lengths.0;
+        let output = GUARD..GUARD + capacity;
+        self.lengths = (run::run(trace, &mut self.judge[output.clone()]), subject(trace, &mut self.subject[output]));
+        let written = GUARD + self.lengths.0;
         assert!(self.judge[written..] == fresh[written..], "the judge wrote past its length");
         self.lengths.0 == self.lengths.1 && self.judge == self.subject
     }
 
+    /// What the judge wrote, and what the subject says that it wrote.
+    fn answers(&self) -> (&[u8], &[u8]) {
+        let (judge, subject) = self.lengths;
+        let most = self.subject.len() - 2 * GUARD;
+        (&self.judge[GUARD..GUARD + judge], &self.subject[GUARD..GUARD + subject.min(most)])
+    }
+
+    /// The first byte past both lengths that differs, counted from the output's start. A guard before it is below 0.
+    fn stray(&self) -> Option<i64> {
+        let written = GUARD..GUARD + self.lengths.0.max(self.lengths.1);
+        let differs = |place: &usize| !written.contains(place) && self.judge[*place] != self.subject[*place];
+        (0..self.judge.len()).find(differs).map(|place| place as i64 - GUARD as i64)
+    }
+
     /// How many events the judge answered.
     pub fn events(&self, trace: &[u8]) -> u64 {
-        let written = self.lengths.0;
-        if written < RESERVED {
-            return 0;
-        }
-        let consumed = u32::from_le_bytes(self.judge[written - 4..written].try_into().expect("four bytes")) as usize;
-        let mut rest = &trace[..consumed];
+        let Some(consumed) = self.answers().0.last_chunk() else { return 0 };
+        let mut rest = &trace[..u32::from_le_bytes(*consumed) as usize];
         let mut events = 0;
         while let Standing::Record { body, .. } = standing(rest) {
             rest = &rest[1 + body.len()..];
@@ -120,18 +134,18 @@ fn plainer(pieces: &mut [Vec<u8>], differs: &mut dyn FnMut(&[Vec<u8>]) -> bool) 
     }
 }
 
-/// A case that differs, in words: its records, both answers side by side where they part, and the bytes past the length.
+/// A case that differs, in words: its records, both answers where they part, and a byte that nobody was to change.
 pub fn explain(case: &Case, subject: Subject) -> String {
     let mut pair = Pair::new();
     pair.agree(case.capacity, &case.trace, subject);
-    let (judge, other) = pair.lengths;
     let mut text = format!("{}: {} bytes into {}\n", case.what, case.trace.len(), case.capacity);
     for line in words::trace(&case.trace) {
         text += &format!("    {line}\n");
     }
-    let ours = words::answers(&pair.judge[..judge]);
-    let theirs = words::answers(&pair.subject[..other.min(case.capacity)]);
+    let (ours, theirs) = pair.answers();
+    let (ours, theirs) = (words::answers(ours), words::answers(theirs));
     let same = ours.iter().zip(&theirs).take_while(|(a, b)| a == b).count();
+    let (judge, other) = pair.lengths;
     text += &format!("  the first {same} answers are the same; lengths {judge} and {other}\n");
     for (name, lines) in [("the Rust", &ours), ("the C function", &theirs)] {
         text += &format!("  then {name}:\n");
@@ -139,9 +153,8 @@ pub fn explain(case: &Case, subject: Subject) -> String {
             text += &format!("    {line}\n");
         }
     }
-    let stray = (judge.max(other)..case.capacity).find(|place| pair.judge[*place] != pair.subject[*place]);
-    if let Some(place) = stray {
-        text += &format!("  byte {place}, past both lengths, was changed\n");
+    if let Some(place) = pair.stray() {
+        text += &format!("  byte {place} of the output's place, outside what was written, was changed\n");
     }
     text
 }

@@ -456,7 +456,7 @@ pub fn full() -> Vec<Named> {
             .held(0, Addr::Long(32)).held(0, Addr::Long(31)).lists()),
         ("every table full, and 112 actions of one tick", busy.clone().tick(20_000).wake()),
         ("every table full, and all abandoned", busy.abandon().wake()),
-        ("64 short and 32 extended addresses", new().each(0..32, child).lists()),
+        ("32 short and 32 extended addresses", new().each(0..32, child).lists()),
         ("32 in the radio", unicasts(32).each(0..33, |s, _| s.dequeue(0)).tick(9000).cancel(31).wake()
             .each(0..32, |s, i| s.sent(31 - i, 9000))),
         ("ids go on as places are used again", new().each(0..40, |s, i| s.direct(0).cancel(i))),

@@ -69,18 +69,21 @@ fn names(dir: &Path, file: &str) -> Vec<String> {
     rows.map(|row| row.splitn(2, ": ").last().unwrap_or_default().to_string()).collect()
 }
 
-/// Every case of a folder, named by its file and place, and by its index.
-pub fn read_all(dir: &Path) -> Result<Vec<Answered>, String> {
-    let mut all = Vec::new();
-    for path in list(dir)? {
-        let bytes = fs::read(&path).map_err(|e| format!("{}: {e}", path.display()))?;
-        let cases = read(&bytes).ok_or_else(|| format!("{} is not a whole case file", path.display()))?;
-        let name = path.file_name().unwrap_or_default().to_string_lossy().into_owned();
-        let mut names = names(dir, &name).into_iter();
-        for mut answered in cases {
-            answered.case.what = format!("{name} {} ({})", answered.case.what, names.next().unwrap_or_default());
-            all.push(answered);
-        }
+/// Every case of a file, named by the file, its place, and the folder's index.
+pub fn read_file(path: &Path) -> Result<Vec<Answered>, String> {
+    let bytes = fs::read(path).map_err(|e| format!("{}: {e}", path.display()))?;
+    let mut cases = read(&bytes).ok_or_else(|| format!("{} is not a whole case file", path.display()))?;
+    let file = path.file_name().unwrap_or_default().to_string_lossy();
+    let mut names = names(path.parent().unwrap_or(Path::new(".")), &file).into_iter();
+    for Answered { case, .. } in &mut cases {
+        let name = names.next().map(|name| format!(" ({name})")).unwrap_or_default();
+        case.what = format!("{file} {}{name}", case.what);
     }
-    Ok(all)
+    Ok(cases)
+}
+
+/// Every case of a folder.
+pub fn read_all(dir: &Path) -> Result<Vec<Answered>, String> {
+    let files: Result<Vec<_>, _> = list(dir)?.iter().map(|path| read_file(path)).collect();
+    Ok(files?.concat())
 }

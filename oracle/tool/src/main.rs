@@ -92,17 +92,11 @@ fn stats(dir: &Path) -> Told {
 }
 
 fn show(path: &str, place: Option<usize>) -> Told {
-    let bytes = fs::read(path).map_err(|e| format!("{path}: {e}"))?;
-    let cases = file::read(&bytes).ok_or_else(|| format!("{path} is not a whole case file"))?;
     let mut text = String::new();
-    for (number, Answered { case, answers }) in cases.iter().enumerate() {
+    for (number, Answered { case, answers }) in file::read_file(Path::new(path))?.iter().enumerate() {
         if place.is_none_or(|place| place == number) {
-            text += &format!(
-                "== {} ({} bytes of room)\n{}\n",
-                case.what,
-                case.capacity,
-                words::dialogue(&case.trace, answers)
-            );
+            let told = words::dialogue(&case.trace, answers);
+            text += &format!("== {}, {} bytes of room\n{told}\n", case.what, case.capacity);
         }
     }
     Ok(text)
@@ -135,6 +129,7 @@ fn replay(dir: &Path) -> Told {
 /// Compares cases one by one; the first that differs is cut down and told.
 fn compare(cases: impl Iterator<Item = Case>) -> Told {
     let start = Instant::now();
+    let mut told = start;
     let mut pair = Pair::new();
     let (mut count, mut events) = (0u64, 0u64);
     for case in cases {
@@ -144,13 +139,14 @@ fn compare(cases: impl Iterator<Item = Case>) -> Told {
         }
         count += 1;
         events += pair.events(&case.trace);
-        if count % 200_000 == 0 {
+        if told.elapsed().as_secs() >= 10 {
+            told = Instant::now();
             eprintln!("{count} cases, {events} events: the same so far ({})", case.what);
         }
     }
     let seconds = start.elapsed().as_secs_f64();
     let rate = events as f64 / seconds * 60.0 / 1e6;
-    let against = subject::ARCHIVE.map_or("the stand-in", |_| "the archive");
+    let against = if subject::ARCHIVE { "the archive" } else { "the stand-in" };
     Ok(format!(
         "{count} cases, {events} events, 0 different from {against}; {seconds:.1} s, {rate:.1} million events a minute"
     ))

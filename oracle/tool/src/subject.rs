@@ -6,7 +6,7 @@ unsafe extern "C" {
 }
 
 /// Whether an archive is linked in.
-pub const ARCHIVE: Option<&str> = option_env!("SENDS_ARCHIVE");
+pub const ARCHIVE: bool = cfg!(archive);
 
 /// Calls the C function on a trace and an output.
 pub fn archive(trace: &[u8], out: &mut [u8]) -> usize {
