@@ -78,6 +78,11 @@ fn polls() -> Vec<Named> {
         ("address 0 is an address", new().held(0, Addr::Short(0)).held(0, Addr::Long(0)).poll(0, None, Some(0))
             .poll(0, Some(0), None).poll(0, Some(0), Some(0))),
         ("a short address is no extended one", new().held(0, Addr::Short(7)).poll(0, Some(7), None).poll(0, None, Some(7))),
+    ]
+}
+
+fn pending() -> Vec<Named> {
+    vec![
         ("frame pending: another awaits", new().held(0, CHILD).held(0, CHILD).poll(0, None, Some(5)).dequeue(0)
             .sent(0, 0).poll(0, None, Some(5)).dequeue(0)),
         ("frame pending: another is queued", new().held(0, CHILD).held(0, CHILD).poll(0, None, Some(5))
@@ -98,7 +103,6 @@ fn polls() -> Vec<Named> {
 
 fn reports() -> Vec<Named> {
     let lent = || new().settings(100, 50, 1, 1).direct(0).dequeue(0);
-    let polled = || new().settings(100, 50, 1, 1).held(0, CHILD).poll(0, None, Some(5)).dequeue(0);
     vec![
         ("a report on a success", lent().sent(0, 0).sent(0, 0)),
         ("a report on an unknown id", new().sent(0, 0).aired(0, 0, 0)),
@@ -111,6 +115,13 @@ fn reports() -> Vec<Named> {
         ("a broadcast's report names the unicasts", new().once(0).dequeue(0).sent(0, 0).aired(0, 0, 0)),
         ("an unrouted send cannot be reported on", new().unrouted(0, 4, None).sent(0, 0).aired(0, 0, 0)),
         ("an abandoned send cannot be reported on", lent().abandon().sent(0, 0)),
+    ]
+}
+
+fn outcomes() -> Vec<Named> {
+    let lent = || new().settings(100, 50, 1, 1).direct(0).dequeue(0);
+    let polled = || new().settings(100, 50, 1, 1).held(0, CHILD).poll(0, None, Some(5)).dequeue(0);
+    vec![
         ("a failure, a retry, a failure: the hop is named", lent().lost(0, 7, 1, 2).tick(3).dequeue(3).lost(0, 8, 4, 2)),
         ("code 0 is an error", new().settings(9, 9, 0, 0).direct(0).dequeue(0).lost(0, 0, 1, 0)),
         ("a retry after the deadline waits, and the tick fails it", lent().lost(0, 7, 100, 0).wake().dequeue(100)
@@ -481,9 +492,9 @@ fn ends() -> Vec<Named> {
 
 /// Every small trace. The full tables stand apart.
 pub fn all() -> Vec<Named> {
-    let groups: [fn() -> Vec<Named>; 15] = [
-        settings, dequeues, polls, reports, acks, broadcasts, quorums, unrouted, routes, cancels, wakes, questions, drops,
-        abandons, times,
+    let groups: [fn() -> Vec<Named>; 17] = [
+        settings, dequeues, polls, pending, reports, outcomes, acks, broadcasts, quorums, unrouted, routes, cancels, wakes,
+        questions, drops, abandons, times,
     ];
     groups.iter().flat_map(|group| group()).chain(ends()).collect()
 }

@@ -1,4 +1,4 @@
-//! Records written out of plain values: the one place that lays an event's bytes down. It lets values outside the form pass.
+//! Records written out of plain values: the one place that lays an event's bytes down. It lets bad values pass.
 
 use run::form::{RESULTS, event};
 
