@@ -1,2 +1,3 @@
+pub mod Cases
 pub mod Host
 pub mod Same

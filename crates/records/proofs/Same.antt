@@ -1,42 +1,33 @@
 -- The tests of sameness hold exactly of equals. Assumes nothing.
-use Prim.Native.Nat.{ℕ}
-use native.Mathlib.Omega.{arith}
 use mathlib.Core.Path.{_≡_, refl, sym, ap, _∙_}
 use mathlib.Core.Bool.{Bool, true, false, _&&_}
 use lib.Dec.{eqb}
 use borrow.Author.Tests.{eqb-true, eq-eqb}
+use Rattle.records.proofs.Cases.{never, both}
 use Rattle.records.specs.Types.{Opt8, None8, Some8, Opt16, None16, Some16, Address, Absent, Short, Extended, AckKey, QuorumKey}
 use Rattle.records.specs.Same.{same8, same16, sameAddress, sameAckKey, sameQuorumKey}
 
-no : {A : Type 0} → false ≡ true → A
-no e = let h : _≡_ {A = ℕ} 0 1 = cc in absurd (omega arith)
-
--- two tests hold together
-pub both : (a b : Bool) → a && b ≡ true → (a ≡ true) × (b ≡ true)
-both true b e = (refl, e)
-both false b e = (e, no e)
-
 pub equal8 : (a b : Opt8) → same8 a b ≡ true → a ≡ b
 equal8 None8 None8 e = refl
-equal8 None8 (Some8 y) e = no e
-equal8 (Some8 x) None8 e = no e
+equal8 None8 (Some8 y) e = never e
+equal8 (Some8 x) None8 e = never e
 equal8 (Some8 x) (Some8 y) e = ap Some8 (eqb-true x y e)
 
 pub equal16 : (a b : Opt16) → same16 a b ≡ true → a ≡ b
 equal16 None16 None16 e = refl
-equal16 None16 (Some16 y) e = no e
-equal16 (Some16 x) None16 e = no e
+equal16 None16 (Some16 y) e = never e
+equal16 (Some16 x) None16 e = never e
 equal16 (Some16 x) (Some16 y) e = ap Some16 (eqb-true x y e)
 
 pub equal-address : (a b : Address) → sameAddress a b ≡ true → a ≡ b
 equal-address Absent Absent e = refl
-equal-address Absent (Short y) e = no e
-equal-address Absent (Extended y) e = no e
-equal-address (Short x) Absent e = no e
+equal-address Absent (Short y) e = never e
+equal-address Absent (Extended y) e = never e
+equal-address (Short x) Absent e = never e
 equal-address (Short x) (Short y) e = ap Short (eqb-true x y e)
-equal-address (Short x) (Extended y) e = no e
-equal-address (Extended x) Absent e = no e
-equal-address (Extended x) (Short y) e = no e
+equal-address (Short x) (Extended y) e = never e
+equal-address (Extended x) Absent e = never e
+equal-address (Extended x) (Short y) e = never e
 equal-address (Extended x) (Extended y) e = ap Extended (eqb-true x y e)
 
 pub equal-ack-key : (a b : AckKey) → sameAckKey a b ≡ true → a ≡ b

@@ -6,10 +6,10 @@ use mathlib.Core.Path.{_≡_, refl, sym, ap, ap₂, _∙_}
 use mathlib.Core.Bool.{Bool, true, false}
 use lib.Dec.{eqb}
 use borrow.Author.Tests.{eq-eqb, ne-eqb}
-use Rattle.records.specs.Pick.{pick}
+use Rattle.records.specs.Pick.{pick, bit}
 use Rattle.records.specs.Priorities.{rankOf}
 use Rattle.tables.specs.Types.{Opt8, None8, Some8, Opt16, None16, Some16, Opt32, None32, Some32, Priority, Background, UserLow, UserNormal, UserHigh, UserCritical, StackCritical, Address, Absent, Short, Extended, Stage, Queued, Transmitting, Retrying, AwaitingPoll, AwaitingApsAck, CopyState, Idle, CopyQueued, CopyTransmitting, Schedule, Once, PassiveAck, FixedInterval, QuorumKey, AckKey, Confirm, OnHandoff, ApsAck}
-use Rattle.tables.specs.Codes.{Coded, opt8Word, opt8From, opt16Word, opt16From, opt32Word, opt32From, priorityFrom, bit, flag, addressTag, addressWord, addressFrom, CodedAddress, stageTag, stageTime, stageFrom, copyTag, copyFrom, quorumWord, quorumFrom, scheduleTag, scheduleCopies, scheduleWhat, scheduleNext, scheduleFrom, CodedSchedule, ackFirst, ackSecond, ackKeyFrom, confirmFirst, confirmSecond, confirmFrom, CodedConfirm}
+use Rattle.tables.specs.Codes.{Coded, opt8Word, opt8From, opt16Word, opt16From, opt32Word, opt32From, priorityFrom, flag, addressTag, addressWord, addressFrom, CodedAddress, stageTag, stageTime, stageFrom, copyTag, copyFrom, quorumWord, quorumFrom, scheduleTag, scheduleCopies, scheduleWhat, scheduleNext, scheduleFrom, CodedSchedule, ackFirst, ackSecond, ackKeyFrom, confirmFirst, confirmSecond, confirmFrom, CodedConfirm}
 
 -- ---- optional numbers, over the width and what is made of them
 

@@ -8,12 +8,13 @@ use lib.ListN.{getD}
 use Rattle.records.specs.Records.{blankBroadcast}
 use Rattle.records.specs.Priorities.{rankOf}
 use Rattle.tables.specs.Types.{Broadcast}
-use Rattle.tables.specs.Codes.{Coded, CodedSchedule, opt16Word, opt16From, priorityFrom, bit, flag, copyTag, copyFrom, scheduleTag, scheduleCopies, scheduleWhat, scheduleNext, scheduleFrom}
-use Rattle.tables.specs.Tables.{rowsOf}
+use Rattle.records.specs.Pick.{bit}
+use Rattle.tables.specs.Codes.{Coded, CodedSchedule, opt16Word, opt16From, priorityFrom, flag, copyTag, copyFrom, scheduleTag, scheduleCopies, scheduleWhat, scheduleNext, scheduleFrom}
+use Rattle.rows.specs.Tables.{rowsOf}
 use Rattle.tables.specs.Layouts.{broadcastFrom, broadcastLayout, broadcastTable}
-use Rattle.tables.proofs.Search.{first-at, next-at}
+use Rattle.rows.proofs.Search.{first-at, next-at}
 use Rattle.tables.proofs.Backs.{priority-back, rank-low, flag-back, bit-low, copy-back, copy-low, schedule-low}
-use Rattle.tables.proofs.Held.{Lawful, row-of}
+use Rattle.rows.proofs.Held.{Lawful, row-of}
 
 pub lawful : Lawful broadcastTable
 unfolding broadcastLayout

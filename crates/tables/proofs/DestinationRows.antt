@@ -7,10 +7,10 @@ use mathlib.Core.List.{List}
 use lib.ListN.{getD}
 use Rattle.records.specs.Records.{blankDestination}
 use Rattle.tables.specs.Types.{Destination}
-use Rattle.tables.specs.Tables.{rowsOf}
+use Rattle.rows.specs.Tables.{rowsOf}
 use Rattle.tables.specs.Layouts.{destinationFrom, destinationLayout, destinationTable}
-use Rattle.tables.proofs.Search.{first-at, next-at}
-use Rattle.tables.proofs.Held.{Lawful, row-of}
+use Rattle.rows.proofs.Search.{first-at, next-at}
+use Rattle.rows.proofs.Held.{Lawful, row-of}
 
 pub lawful : Lawful destinationTable
 unfolding destinationLayout

@@ -1,10 +1,3 @@
-pub mod Sets
-pub mod Keys
-pub mod Search
-pub mod Flat
-pub mod Ordered
-pub mod Held
-pub mod Answers
 pub mod Backs
 pub mod UnicastRows
 pub mod UnroutedRows

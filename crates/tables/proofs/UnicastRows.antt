@@ -9,11 +9,11 @@ use Rattle.records.specs.Records.{blankUnicast}
 use Rattle.records.specs.Priorities.{rankOf}
 use Rattle.tables.specs.Types.{Unicast}
 use Rattle.tables.specs.Codes.{Coded, CodedAddress, CodedConfirm, opt32Word, opt32From, priorityFrom, addressTag, addressFrom, addressWord, stageTag, stageFrom, stageTime, confirmFrom, confirmFirst, confirmSecond}
-use Rattle.tables.specs.Tables.{rowsOf}
+use Rattle.rows.specs.Tables.{rowsOf}
 use Rattle.tables.specs.Layouts.{unicastTags, unicastWords, unicastFrom, unicastLayout, unicastTable}
-use Rattle.tables.proofs.Search.{first-at, next-at}
+use Rattle.rows.proofs.Search.{first-at, next-at}
 use Rattle.tables.proofs.Backs.{priority-back, rank-low, address-low, stage-back, stage-low}
-use Rattle.tables.proofs.Held.{Lawful, row-of}
+use Rattle.rows.proofs.Held.{Lawful, row-of}
 
 pub lawful : Lawful unicastTable
 unfolding unicastLayout

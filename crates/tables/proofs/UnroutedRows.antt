@@ -9,11 +9,11 @@ use Rattle.records.specs.Records.{blankUnrouted}
 use Rattle.records.specs.Priorities.{rankOf}
 use Rattle.tables.specs.Types.{Unrouted}
 use Rattle.tables.specs.Codes.{priorityFrom, confirmFrom, confirmFirst, confirmSecond}
-use Rattle.tables.specs.Tables.{rowsOf}
+use Rattle.rows.specs.Tables.{rowsOf}
 use Rattle.tables.specs.Layouts.{unroutedFrom, unroutedLayout, unroutedTable}
-use Rattle.tables.proofs.Search.{first-at, next-at}
+use Rattle.rows.proofs.Search.{first-at, next-at}
 use Rattle.tables.proofs.Backs.{priority-back, rank-low}
-use Rattle.tables.proofs.Held.{Lawful, row-of}
+use Rattle.rows.proofs.Held.{Lawful, row-of}
 
 pub lawful : Lawful unroutedTable
 unfolding unroutedLayout

@@ -4,7 +4,7 @@ use Prim.Native.Nat.{ℕ, _+_, _-_, _*_, _/_, _%_, _<_}
 use mathlib.Core.Path.{_≡_}
 use mathlib.Core.Bool.{Bool, true, false}
 use lib.Dec.{eqb}
-use Rattle.records.specs.Pick.{pick}
+use Rattle.records.specs.Pick.{pick, bit}
 use Rattle.tables.specs.Types.{Opt8, None8, Some8, Opt16, None16, Some16, Opt32, None32, Some32, Priority, Background, UserLow, UserNormal, UserHigh, UserCritical, StackCritical, Address, Absent, Short, Extended, Stage, Queued, Transmitting, Retrying, AwaitingPoll, AwaitingApsAck, CopyState, Idle, CopyQueued, CopyTransmitting, Schedule, Once, PassiveAck, FixedInterval, QuorumKey, AckKey, Confirm, OnHandoff, ApsAck}
 use Rattle.tables.specs.declared.codes.Two.{Two}
 
@@ -42,10 +42,6 @@ opt32From x = pick (eqb x 0) None32 (Some32 ((x - 1) % 4294967296))
 abbrev pub priorityFrom : ℕ → Priority
 priorityFrom n =
     pick (eqb n 0) Background (pick (eqb n 1) UserLow (pick (eqb n 2) UserNormal (pick (eqb n 3) UserHigh (pick (eqb n 4) UserCritical StackCritical))))
-
-abbrev pub bit : Bool → ℕ
-bit true = 1
-bit false = 0
 
 abbrev pub flag : ℕ → Bool
 flag n = eqb n 1

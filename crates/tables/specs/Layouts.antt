@@ -10,8 +10,9 @@ use Rattle.tables.specs.Types.{Unicast, Unrouted, Broadcast, Destination
 use Rattle.tables.specs.declared.unicasts.UnicastHead.{UnicastHead}
 use Rattle.tables.specs.declared.unrouted.UnroutedHead.{UnroutedHead}
 use Rattle.tables.specs.declared.broadcasts.BroadcastHead.{BroadcastHead}
-use Rattle.tables.specs.Codes.{Coded, opt16Word, opt16From, opt32Word, opt32From, priorityFrom, bit, flag, addressTag, addressWord, addressFrom, stageTag, stageTime, stageFrom, copyTag, copyFrom, scheduleTag, scheduleCopies, scheduleWhat, scheduleNext, scheduleFrom, confirmFirst, confirmSecond, confirmFrom}
-use Rattle.tables.specs.Tables.{Layout, Table}
+use Rattle.records.specs.Pick.{bit}
+use Rattle.tables.specs.Codes.{Coded, opt16Word, opt16From, opt32Word, opt32From, priorityFrom, flag, addressTag, addressWord, addressFrom, stageTag, stageTime, stageFrom, copyTag, copyFrom, scheduleTag, scheduleCopies, scheduleWhat, scheduleNext, scheduleFrom, confirmFirst, confirmSecond, confirmFrom}
+use Rattle.rows.specs.Tables.{Layout, Table}
 
 -- the low half of a word
 abbrev pub low : ℕ → ℕ

@@ -1,20 +1,19 @@
 // The table of broadcasts: 16 places of seven words, by id.
-use crate::Inserted;
-use crate::Place;
 use crate::codes;
-use crate::rows;
-use crate::rows::Slot;
 use records::Broadcast;
 use records::CopyState;
 use records::Priority;
 use records::Schedule;
+use rows::Inserted;
+use rows::Place;
+use rows::Slot;
 ghost use mathlib.Core.Path.{_≡_};
 ghost use Prim.Native.Nat.{_-_, _<_};
 ghost use mathlib.Core.List.{[]};
 ghost use lib.ListN.{getD, set};
 ghost use Rattle.records.specs.Records.{blankBroadcast, broadcastId};
-ghost use Rattle.tables.specs.Lists.{findBy, removeAt, removeBy, placeAt};
-ghost use Rattle.tables.specs.Tables.{rowsOf, live, Held, Holds, Stands, Entered, Put};
+ghost use Rattle.rows.specs.Lists.{findBy, removeAt, removeBy, placeAt};
+ghost use Rattle.rows.specs.Tables.{rowsOf, live, Held, Holds, Stands, Entered, Put};
 ghost use Rattle.tables.specs.Layouts.{broadcastFrom, BroadcastTagged, broadcastHead, broadcastTable};
 
 // What a scan reads of a record: all but its handles, its handoff and its last error.

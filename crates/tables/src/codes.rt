@@ -12,7 +12,8 @@ use records::QuorumKey;
 use records::Schedule;
 use records::Stage;
 ghost use mathlib.Core.Path.{_≡_};
-ghost use Rattle.tables.specs.Codes.{opt8Word, opt8From, opt16Word, opt16From, opt32Word, opt32From, priorityFrom, addressTag, addressWord, addressFrom, stageTag, stageTime, stageFrom, bit, copyTag, copyFrom, scheduleTag, scheduleNext, scheduleFrom, quorumWord, quorumFrom, ackKeyFrom, confirmFrom, Coded, CodedAddress, CodedCopies, CodedSchedule, CodedConfirm};
+ghost use Rattle.records.specs.Pick.{bit};
+ghost use Rattle.tables.specs.Codes.{opt8Word, opt8From, opt16Word, opt16From, opt32Word, opt32From, priorityFrom, addressTag, addressWord, addressFrom, stageTag, stageTime, stageFrom, copyTag, copyFrom, scheduleTag, scheduleNext, scheduleFrom, quorumWord, quorumFrom, ackKeyFrom, confirmFrom, Coded, CodedAddress, CodedCopies, CodedSchedule, CodedConfirm};
 ghost use Rattle.tables.specs.Types.{ApsAck};
 
 // ---- optional numbers: 0 where absent, else one more

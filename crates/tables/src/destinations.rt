@@ -1,16 +1,15 @@
 // The table of held destinations: 16 places of two words, by address.
-use crate::Inserted;
-use crate::Place;
-use crate::rows;
-use crate::rows::Slot;
 use records::Destination;
+use rows::Inserted;
+use rows::Place;
+use rows::Slot;
 ghost use mathlib.Core.Path.{_≡_};
 ghost use Prim.Native.Nat.{_-_, _<_};
 ghost use mathlib.Core.List.{[]};
 ghost use lib.ListN.{getD, set};
 ghost use Rattle.records.specs.Records.{blankDestination, destinationAddress};
-ghost use Rattle.tables.specs.Lists.{findBy, removeAt, removeBy, placeAt};
-ghost use Rattle.tables.specs.Tables.{rowsOf, live, Held, Holds, Stands, Entered, Put};
+ghost use Rattle.rows.specs.Lists.{findBy, removeAt, removeBy, placeAt};
+ghost use Rattle.rows.specs.Tables.{rowsOf, live, Held, Holds, Stands, Entered, Put};
 ghost use Rattle.tables.specs.Layouts.{destinationTable};
 
 // The table with no record.

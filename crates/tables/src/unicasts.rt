@@ -1,22 +1,21 @@
 // The table of unicasts: 32 places of ten words, by id.
-use crate::Inserted;
-use crate::Place;
 use crate::codes;
-use crate::rows;
-use crate::rows::Slot;
 use records::Address;
 use records::Confirm;
 use records::Opt32;
 use records::Priority;
 use records::Stage;
 use records::Unicast;
+use rows::Inserted;
+use rows::Place;
+use rows::Slot;
 ghost use mathlib.Core.Path.{_≡_};
 ghost use Prim.Native.Nat.{_-_, _<_};
 ghost use mathlib.Core.List.{[]};
 ghost use lib.ListN.{getD, set};
 ghost use Rattle.records.specs.Records.{blankUnicast, unicastId};
-ghost use Rattle.tables.specs.Lists.{findBy, removeAt, removeBy, placeAt};
-ghost use Rattle.tables.specs.Tables.{rowsOf, live, Held, Holds, Stands, Entered, Put};
+ghost use Rattle.rows.specs.Lists.{findBy, removeAt, removeBy, placeAt};
+ghost use Rattle.rows.specs.Tables.{rowsOf, live, Held, Holds, Stands, Entered, Put};
 ghost use Rattle.tables.specs.Layouts.{unicastFrom, UnicastTagged, unicastHead, unicastTable};
 
 // What a scan reads of a record: all but its handles, its next hop and what confirms it.

@@ -1,17 +1,16 @@
 // The table of unrouted sends: 16 places of seven words, by id.
-use crate::Inserted;
-use crate::Place;
 use crate::codes;
-use crate::rows;
-use crate::rows::Slot;
 use records::Unrouted;
+use rows::Inserted;
+use rows::Place;
+use rows::Slot;
 ghost use mathlib.Core.Path.{_≡_};
 ghost use Prim.Native.Nat.{_-_, _<_};
 ghost use mathlib.Core.List.{[]};
 ghost use lib.ListN.{getD, set};
 ghost use Rattle.records.specs.Records.{blankUnrouted, unroutedId};
-ghost use Rattle.tables.specs.Lists.{findBy, removeAt, removeBy, placeAt};
-ghost use Rattle.tables.specs.Tables.{rowsOf, live, Held, Holds, Stands, Entered, Put};
+ghost use Rattle.rows.specs.Lists.{findBy, removeAt, removeBy, placeAt};
+ghost use Rattle.rows.specs.Tables.{rowsOf, live, Held, Holds, Stands, Entered, Put};
 ghost use Rattle.tables.specs.Layouts.{unroutedFrom, unroutedHead, unroutedTable};
 
 // What a scan reads of a record.

@@ -1,13 +1,13 @@
 use Rattle.tables.specs.Layouts.{broadcastLayout}
 use Rattle.tables.proofs.BroadcastRows.{lawful}
-use Rattle.tables.proofs.Held.{held-searched}
-use Rattle.tables.proofs.Answers.{sought}
+use Rattle.rows.proofs.Held.{held-searched}
+use Rattle.rows.proofs.Answers.{sought}
 use borrow.Author.Needs.{needs}
 use Rattle.tables.proofs.broadcasts.find.Statement.{statement}
 use Rattle.tables.proofs.broadcasts.find.Tie as tie
 use Rattle.tables.proofs.broadcasts.find.Reads as reads
 use Rattle.tables.proofs.broadcasts.find.Lts as lts
-use Rattle.tables.proofs.rows.seek.Reads as seek-reads
+use Rattle.rows.proofs.seek.Reads as seek-reads
 
 seek-requires : tie.Need-seek-requires
 unfolding broadcastLayout

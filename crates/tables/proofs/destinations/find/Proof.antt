@@ -1,13 +1,13 @@
 use Rattle.tables.specs.Layouts.{destinationLayout}
 use Rattle.tables.proofs.DestinationRows.{lawful}
-use Rattle.tables.proofs.Held.{held-searched}
-use Rattle.tables.proofs.Answers.{sought}
+use Rattle.rows.proofs.Held.{held-searched}
+use Rattle.rows.proofs.Answers.{sought}
 use borrow.Author.Needs.{needs}
 use Rattle.tables.proofs.destinations.find.Statement.{statement}
 use Rattle.tables.proofs.destinations.find.Tie as tie
 use Rattle.tables.proofs.destinations.find.Reads as reads
 use Rattle.tables.proofs.destinations.find.Lts as lts
-use Rattle.tables.proofs.rows.seek.Reads as seek-reads
+use Rattle.rows.proofs.seek.Reads as seek-reads
 
 seek-requires : tie.Need-seek-requires
 unfolding destinationLayout

@@ -1,13 +1,13 @@
 use Rattle.tables.specs.Layouts.{destinationLayout}
 use Rattle.tables.proofs.DestinationRows.{lawful}
-use Rattle.tables.proofs.Held.{held-searched}
-use Rattle.tables.proofs.Answers.{roomy, over-lt, new-lt, shut-entered, over-entered, new-entered}
+use Rattle.rows.proofs.Held.{held-searched}
+use Rattle.rows.proofs.Answers.{roomy, over-lt, new-lt, shut-entered, over-entered, new-entered}
 use borrow.Author.Needs.{needs}
 use Rattle.tables.proofs.destinations.insert.Statement.{statement}
 use Rattle.tables.proofs.destinations.insert.Tie as tie
 use Rattle.tables.proofs.destinations.insert.Reads as reads
 use Rattle.tables.proofs.destinations.insert.Lts as lts
-use Rattle.tables.proofs.rows.enter.Reads as enter-reads
+use Rattle.rows.proofs.enter.Reads as enter-reads
 use Rattle.tables.proofs.destinations.put.Reads as put-reads
 
 cast-enter : tie.Need-cast-enter

@@ -1,5 +1,5 @@
 use Rattle.tables.proofs.DestinationRows.{lawful}
-use Rattle.tables.proofs.Held.{holds-put}
+use Rattle.rows.proofs.Held.{holds-put}
 use borrow.Author.Needs.{needs}
 use Rattle.tables.proofs.destinations.store.Statement.{statement}
 use Rattle.tables.proofs.destinations.store.Tie as tie

@@ -1,8 +1,8 @@
 use mathlib.Core.Path.{refl}
-use Rattle.tables.specs.Tables.{wordsFor}
+use Rattle.rows.specs.Tables.{wordsFor}
 use Rattle.tables.specs.Layouts.{unicastLayout}
 use Rattle.tables.proofs.UnicastRows.{lawful}
-use Rattle.tables.proofs.Held.{holds-fresh}
+use Rattle.rows.proofs.Held.{holds-fresh}
 use borrow.Author.Needs.{needs}
 use Rattle.tables.proofs.unicasts.fresh.Statement.{statement}
 use Rattle.tables.proofs.unicasts.fresh.Tie as tie

@@ -1,12 +1,12 @@
 use Rattle.tables.specs.Layouts.{unicastLayout}
 use Rattle.tables.proofs.UnicastRows.{lawful}
-use Rattle.tables.proofs.Held.{holds-removed}
+use Rattle.rows.proofs.Held.{holds-removed}
 use borrow.Author.Needs.{needs}
 use Rattle.tables.proofs.unicasts.remove_at.Statement.{statement}
 use Rattle.tables.proofs.unicasts.remove_at.Tie as tie
 use Rattle.tables.proofs.unicasts.remove_at.Reads as reads
 use Rattle.tables.proofs.unicasts.remove_at.Lts as lts
-use Rattle.tables.proofs.rows.close.Reads as close-reads
+use Rattle.rows.proofs.close.Reads as close-reads
 
 close-requires : tie.Need-close-requires
 close-requires c κs = search needs

@@ -1,13 +1,13 @@
 use Rattle.tables.specs.Layouts.{unroutedLayout}
 use Rattle.tables.proofs.UnroutedRows.{lawful}
-use Rattle.tables.proofs.Held.{held-searched}
-use Rattle.tables.proofs.Answers.{left}
+use Rattle.rows.proofs.Held.{held-searched}
+use Rattle.rows.proofs.Answers.{left}
 use borrow.Author.Needs.{needs}
 use Rattle.tables.proofs.unrouted.remove.Statement.{statement}
 use Rattle.tables.proofs.unrouted.remove.Tie as tie
 use Rattle.tables.proofs.unrouted.remove.Reads as reads
 use Rattle.tables.proofs.unrouted.remove.Lts as lts
-use Rattle.tables.proofs.rows.leave.Reads as leave-reads
+use Rattle.rows.proofs.leave.Reads as leave-reads
 
 leave-requires : tie.Need-leave-requires
 unfolding unroutedLayout
