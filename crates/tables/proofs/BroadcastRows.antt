@@ -7,13 +7,13 @@ use mathlib.Core.List.{List}
 use lib.ListN.{getD}
 use Rattle.records.specs.Records.{blankBroadcast}
 use Rattle.records.specs.Priorities.{rankOf}
-use Rattle.tables.specs.Types.{Broadcast}
+use Rattle.records.specs.declared.Broadcast.{Broadcast}
 use Rattle.records.specs.Pick.{bit}
-use Rattle.tables.specs.Codes.{Coded, CodedSchedule, opt16Word, opt16From, priorityFrom, flag, copyTag, copyFrom, scheduleTag, scheduleCopies, scheduleWhat, scheduleNext, scheduleFrom}
+use Rattle.codes.specs.Codes.{Coded, CodedSchedule, opt16Word, opt16From, priorityFrom, flag, copyTag, copyFrom, scheduleTag, scheduleCopies, scheduleWhat, scheduleNext, scheduleFrom}
 use Rattle.rows.specs.Tables.{rowsOf}
 use Rattle.tables.specs.Layouts.{broadcastFrom, broadcastLayout, broadcastTable}
 use Rattle.rows.proofs.Search.{first-at, next-at}
-use Rattle.tables.proofs.Backs.{priority-back, rank-low, flag-back, bit-low, copy-back, copy-low, schedule-low}
+use Rattle.codes.proofs.Backs.{priority-back, rank-low, flag-back, bit-low, copy-back, copy-low, schedule-low}
 use Rattle.rows.proofs.Held.{Lawful, row-of}
 
 pub lawful : Lawful broadcastTable

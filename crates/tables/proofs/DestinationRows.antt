@@ -6,7 +6,7 @@ use mathlib.Core.Path.{_≡_, refl}
 use mathlib.Core.List.{List}
 use lib.ListN.{getD}
 use Rattle.records.specs.Records.{blankDestination}
-use Rattle.tables.specs.Types.{Destination}
+use Rattle.records.specs.declared.Destination.{Destination}
 use Rattle.rows.specs.Tables.{rowsOf}
 use Rattle.tables.specs.Layouts.{destinationFrom, destinationLayout, destinationTable}
 use Rattle.rows.proofs.Search.{first-at, next-at}

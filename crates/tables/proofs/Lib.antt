@@ -1,4 +1,3 @@
-pub mod Backs
 pub mod UnicastRows
 pub mod UnroutedRows
 pub mod BroadcastRows

@@ -7,12 +7,12 @@ use mathlib.Core.List.{List}
 use lib.ListN.{getD}
 use Rattle.records.specs.Records.{blankUnicast}
 use Rattle.records.specs.Priorities.{rankOf}
-use Rattle.tables.specs.Types.{Unicast}
-use Rattle.tables.specs.Codes.{Coded, CodedAddress, CodedConfirm, opt32Word, opt32From, priorityFrom, addressTag, addressFrom, addressWord, stageTag, stageFrom, stageTime, confirmFrom, confirmFirst, confirmSecond}
+use Rattle.records.specs.declared.Unicast.{Unicast}
+use Rattle.codes.specs.Codes.{Coded, CodedAddress, CodedConfirm, opt32Word, opt32From, priorityFrom, addressTag, addressFrom, addressWord, stageTag, stageFrom, stageTime, confirmFrom, confirmFirst, confirmSecond}
 use Rattle.rows.specs.Tables.{rowsOf}
 use Rattle.tables.specs.Layouts.{unicastTags, unicastWords, unicastFrom, unicastLayout, unicastTable}
 use Rattle.rows.proofs.Search.{first-at, next-at}
-use Rattle.tables.proofs.Backs.{priority-back, rank-low, address-low, stage-back, stage-low}
+use Rattle.codes.proofs.Backs.{priority-back, rank-low, address-low, stage-back, stage-low}
 use Rattle.rows.proofs.Held.{Lawful, row-of}
 
 pub lawful : Lawful unicastTable

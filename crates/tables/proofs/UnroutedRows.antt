@@ -7,12 +7,12 @@ use mathlib.Core.List.{List}
 use lib.ListN.{getD}
 use Rattle.records.specs.Records.{blankUnrouted}
 use Rattle.records.specs.Priorities.{rankOf}
-use Rattle.tables.specs.Types.{Unrouted}
-use Rattle.tables.specs.Codes.{priorityFrom, confirmFrom, confirmFirst, confirmSecond}
+use Rattle.records.specs.declared.Unrouted.{Unrouted}
+use Rattle.codes.specs.Codes.{priorityFrom, confirmFrom, confirmFirst, confirmSecond}
 use Rattle.rows.specs.Tables.{rowsOf}
 use Rattle.tables.specs.Layouts.{unroutedFrom, unroutedLayout, unroutedTable}
 use Rattle.rows.proofs.Search.{first-at, next-at}
-use Rattle.tables.proofs.Backs.{priority-back, rank-low}
+use Rattle.codes.proofs.Backs.{priority-back, rank-low}
 use Rattle.rows.proofs.Held.{Lawful, row-of}
 
 pub lawful : Lawful unroutedTable

@@ -6,12 +6,15 @@ use lib.ListN.{getD}
 use Rattle.records.specs.Limits.{unicastRoom, unroutedRoom, destinationRoom, broadcastRoom}
 use Rattle.records.specs.Priorities.{rankOf}
 use Rattle.records.specs.Records.{blankUnicast, blankUnrouted, blankBroadcast, blankDestination, unicastId, unroutedId, broadcastId, destinationAddress}
-use Rattle.tables.specs.Types.{Unicast, Unrouted, Broadcast, Destination}
+use Rattle.records.specs.declared.Unicast.{Unicast}
+use Rattle.records.specs.declared.Unrouted.{Unrouted}
+use Rattle.records.specs.declared.Broadcast.{Broadcast}
+use Rattle.records.specs.declared.Destination.{Destination}
 use Rattle.tables.specs.declared.unicasts.UnicastHead.{UnicastHead}
 use Rattle.tables.specs.declared.unrouted.UnroutedHead.{UnroutedHead}
 use Rattle.tables.specs.declared.broadcasts.BroadcastHead.{BroadcastHead}
 use Rattle.records.specs.Pick.{bit}
-use Rattle.tables.specs.Codes.{Coded, opt16Word, opt16From, opt32Word, opt32From, priorityFrom, flag, addressTag, addressWord, addressFrom, stageTag, stageTime, stageFrom, copyTag, copyFrom, scheduleTag, scheduleCopies, scheduleWhat, scheduleNext, scheduleFrom, confirmFirst, confirmSecond, confirmFrom}
+use Rattle.codes.specs.Codes.{Coded, opt16Word, opt16From, opt32Word, opt32From, priorityFrom, flag, addressTag, addressWord, addressFrom, stageTag, stageTime, stageFrom, copyTag, copyFrom, scheduleTag, scheduleCopies, scheduleWhat, scheduleNext, scheduleFrom, confirmFirst, confirmSecond, confirmFrom}
 use Rattle.rows.specs.Tables.{Layout, Table}
 
 -- the low half of a word

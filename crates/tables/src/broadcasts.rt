@@ -1,5 +1,4 @@
 // The table of broadcasts: 16 places of seven words, by id.
-use crate::codes;
 use records::Broadcast;
 use records::CopyState;
 use records::Priority;

@@ -1,5 +1,4 @@
 // The table of unicasts: 32 places of ten words, by id.
-use crate::codes;
 use records::Address;
 use records::Confirm;
 use records::Opt32;

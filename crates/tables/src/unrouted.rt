@@ -1,5 +1,4 @@
 // The table of unrouted sends: 16 places of seven words, by id.
-use crate::codes;
 use records::Unrouted;
 use rows::Inserted;
 use rows::Place;

@@ -5,10 +5,10 @@ use Rattle.tables.proofs.broadcasts.broadcast_of.Statement.{statement}
 use Rattle.tables.proofs.broadcasts.broadcast_of.Tie as tie
 use Rattle.tables.proofs.broadcasts.broadcast_of.Reads as reads
 use Rattle.tables.proofs.broadcasts.broadcast_of.Lts as lts
-use Rattle.tables.proofs.codes.copy_of.Reads as copy-of-reads
-use Rattle.tables.proofs.codes.opt16_of.Reads as opt16-of-reads
-use Rattle.tables.proofs.codes.priority_of.Reads as priority-of-reads
-use Rattle.tables.proofs.codes.schedule_of.Reads as schedule-of-reads
+use Rattle.codes.proofs.copy_of.Reads as copy-of-reads
+use Rattle.codes.proofs.opt16_of.Reads as opt16-of-reads
+use Rattle.codes.proofs.priority_of.Reads as priority-of-reads
+use Rattle.codes.proofs.schedule_of.Reads as schedule-of-reads
 
 priority-of-requires : tie.Need-priority-of-requires
 priority-of-requires c κs = search needs

@@ -10,9 +10,9 @@ use Rattle.tables.proofs.broadcasts.head.Statement.{statement}
 use Rattle.tables.proofs.broadcasts.head.Tie as tie
 use Rattle.tables.proofs.broadcasts.head.Reads as reads
 use Rattle.tables.proofs.broadcasts.head.Lts as lts
-use Rattle.tables.proofs.codes.copy_of.Reads as copy-of-reads
-use Rattle.tables.proofs.codes.priority_of.Reads as priority-of-reads
-use Rattle.tables.proofs.codes.schedule_of.Reads as schedule-of-reads
+use Rattle.codes.proofs.copy_of.Reads as copy-of-reads
+use Rattle.codes.proofs.priority_of.Reads as priority-of-reads
+use Rattle.codes.proofs.schedule_of.Reads as schedule-of-reads
 
 mul-k : tie.Need-mul-k
 mul-k c = search needs

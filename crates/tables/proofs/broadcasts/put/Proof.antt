@@ -9,8 +9,8 @@ use Rattle.tables.proofs.broadcasts.put.Tie as tie
 use Rattle.tables.proofs.broadcasts.put.Reads as reads
 use Rattle.tables.proofs.broadcasts.put.Lts as lts
 use Rattle.tables.proofs.broadcasts.tags_of.Reads as tags-of-reads
-use Rattle.tables.proofs.codes.schedule_next.Reads as schedule-next-reads
-use Rattle.tables.proofs.codes.schedule_what.Reads as schedule-what-reads
+use Rattle.codes.proofs.schedule_next.Reads as schedule-next-reads
+use Rattle.codes.proofs.schedule_what.Reads as schedule-what-reads
 
 mul-k : tie.Need-mul-k
 mul-k c = search needs

@@ -1,17 +1,17 @@
 use Prim.Native.Nat.{_<_}
 use native.Mathlib.Omega.{arith}
-use Rattle.tables.proofs.Backs.{rank-low, copy-low, bit-low, schedule-low}
+use Rattle.codes.proofs.Backs.{rank-low, copy-low, bit-low, schedule-low}
 use borrow.Author.Needs.{needs}
 use Rattle.tables.proofs.broadcasts.tags_of.Statement.{statement}
 use Rattle.tables.proofs.broadcasts.tags_of.Tie as tie
 use Rattle.tables.proofs.broadcasts.tags_of.Reads as reads
 use Rattle.tables.proofs.broadcasts.tags_of.Lts as lts
 use Rattle.records.proofs.priorities.rank.Reads as rank-reads
-use Rattle.tables.proofs.codes.copy_tag.Reads as copy-tag-reads
-use Rattle.tables.proofs.codes.flag_word.Reads as flag-word-reads
-use Rattle.tables.proofs.codes.opt16_word.Reads as opt16-word-reads
-use Rattle.tables.proofs.codes.schedule_copies.Reads as schedule-copies-reads
-use Rattle.tables.proofs.codes.schedule_tag.Reads as schedule-tag-reads
+use Rattle.codes.proofs.copy_tag.Reads as copy-tag-reads
+use Rattle.codes.proofs.flag_word.Reads as flag-word-reads
+use Rattle.codes.proofs.opt16_word.Reads as opt16-word-reads
+use Rattle.codes.proofs.schedule_copies.Reads as schedule-copies-reads
+use Rattle.codes.proofs.schedule_tag.Reads as schedule-tag-reads
 
 -- each number is below its limit
 lows : (c : tie.After-opt16-word)

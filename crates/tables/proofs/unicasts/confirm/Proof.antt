@@ -1,12 +1,12 @@
 use mathlib.Core.Path.{ap, _∙_}
-use Rattle.tables.specs.Types.{Unicast}
+use Rattle.records.specs.declared.Unicast.{Unicast}
 use Rattle.tables.proofs.UnicastRows.{row}
 use borrow.Author.Needs.{needs}
 use Rattle.tables.proofs.unicasts.confirm.Statement.{statement}
 use Rattle.tables.proofs.unicasts.confirm.Tie as tie
 use Rattle.tables.proofs.unicasts.confirm.Reads as reads
 use Rattle.tables.proofs.unicasts.confirm.Lts as lts
-use Rattle.tables.proofs.codes.confirm_of.Reads as confirm-of-reads
+use Rattle.codes.proofs.confirm_of.Reads as confirm-of-reads
 
 mul-k : tie.Need-mul-k
 mul-k c = search needs

@@ -9,10 +9,10 @@ use Rattle.tables.proofs.unicasts.head.Statement.{statement}
 use Rattle.tables.proofs.unicasts.head.Tie as tie
 use Rattle.tables.proofs.unicasts.head.Reads as reads
 use Rattle.tables.proofs.unicasts.head.Lts as lts
-use Rattle.tables.proofs.codes.address_of.Reads as address-of-reads
-use Rattle.tables.proofs.codes.opt32_of.Reads as opt32-of-reads
-use Rattle.tables.proofs.codes.priority_of.Reads as priority-of-reads
-use Rattle.tables.proofs.codes.stage_of.Reads as stage-of-reads
+use Rattle.codes.proofs.address_of.Reads as address-of-reads
+use Rattle.codes.proofs.opt32_of.Reads as opt32-of-reads
+use Rattle.codes.proofs.priority_of.Reads as priority-of-reads
+use Rattle.codes.proofs.stage_of.Reads as stage-of-reads
 
 mul-k : tie.Need-mul-k
 mul-k c = search needs

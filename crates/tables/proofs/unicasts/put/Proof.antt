@@ -8,10 +8,10 @@ use Rattle.tables.proofs.unicasts.put.Statement.{statement}
 use Rattle.tables.proofs.unicasts.put.Tie as tie
 use Rattle.tables.proofs.unicasts.put.Reads as reads
 use Rattle.tables.proofs.unicasts.put.Lts as lts
-use Rattle.tables.proofs.codes.address_word.Reads as address-word-reads
-use Rattle.tables.proofs.codes.confirm_words.Reads as confirm-words-reads
-use Rattle.tables.proofs.codes.opt32_word.Reads as opt32-word-reads
-use Rattle.tables.proofs.codes.stage_time.Reads as stage-time-reads
+use Rattle.codes.proofs.address_word.Reads as address-word-reads
+use Rattle.codes.proofs.confirm_words.Reads as confirm-words-reads
+use Rattle.codes.proofs.opt32_word.Reads as opt32-word-reads
+use Rattle.codes.proofs.stage_time.Reads as stage-time-reads
 use Rattle.tables.proofs.unicasts.tags_of.Reads as tags-of-reads
 
 mul-k : tie.Need-mul-k

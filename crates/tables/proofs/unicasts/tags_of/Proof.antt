@@ -1,13 +1,13 @@
 use native.Mathlib.Omega.{arith}
-use Rattle.tables.proofs.Backs.{address-low, rank-low, stage-low}
+use Rattle.codes.proofs.Backs.{address-low, rank-low, stage-low}
 use borrow.Author.Needs.{needs}
 use Rattle.tables.proofs.unicasts.tags_of.Statement.{statement}
 use Rattle.tables.proofs.unicasts.tags_of.Tie as tie
 use Rattle.tables.proofs.unicasts.tags_of.Reads as reads
 use Rattle.tables.proofs.unicasts.tags_of.Lts as lts
 use Rattle.records.proofs.priorities.rank.Reads as rank-reads
-use Rattle.tables.proofs.codes.address_tag.Reads as address-tag-reads
-use Rattle.tables.proofs.codes.stage_tag.Reads as stage-tag-reads
+use Rattle.codes.proofs.address_tag.Reads as address-tag-reads
+use Rattle.codes.proofs.stage_tag.Reads as stage-tag-reads
 
 rank-requires : tie.Need-rank-requires
 rank-requires c κs = search needs

@@ -4,11 +4,11 @@ use Rattle.tables.proofs.unicasts.unicast_of.Statement.{statement}
 use Rattle.tables.proofs.unicasts.unicast_of.Tie as tie
 use Rattle.tables.proofs.unicasts.unicast_of.Reads as reads
 use Rattle.tables.proofs.unicasts.unicast_of.Lts as lts
-use Rattle.tables.proofs.codes.address_of.Reads as address-of-reads
-use Rattle.tables.proofs.codes.confirm_of.Reads as confirm-of-reads
-use Rattle.tables.proofs.codes.opt32_of.Reads as opt32-of-reads
-use Rattle.tables.proofs.codes.priority_of.Reads as priority-of-reads
-use Rattle.tables.proofs.codes.stage_of.Reads as stage-of-reads
+use Rattle.codes.proofs.address_of.Reads as address-of-reads
+use Rattle.codes.proofs.confirm_of.Reads as confirm-of-reads
+use Rattle.codes.proofs.opt32_of.Reads as opt32-of-reads
+use Rattle.codes.proofs.priority_of.Reads as priority-of-reads
+use Rattle.codes.proofs.stage_of.Reads as stage-of-reads
 
 priority-of-requires : tie.Need-priority-of-requires
 priority-of-requires c κs = search needs

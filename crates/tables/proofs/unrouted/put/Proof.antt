@@ -9,7 +9,7 @@ use Rattle.tables.proofs.unrouted.put.Tie as tie
 use Rattle.tables.proofs.unrouted.put.Reads as reads
 use Rattle.tables.proofs.unrouted.put.Lts as lts
 use Rattle.records.proofs.priorities.rank.Reads as rank-reads
-use Rattle.tables.proofs.codes.confirm_words.Reads as confirm-words-reads
+use Rattle.codes.proofs.confirm_words.Reads as confirm-words-reads
 
 mul-k : tie.Need-mul-k
 mul-k c = search needs

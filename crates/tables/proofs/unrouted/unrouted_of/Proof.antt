@@ -4,8 +4,8 @@ use Rattle.tables.proofs.unrouted.unrouted_of.Statement.{statement}
 use Rattle.tables.proofs.unrouted.unrouted_of.Tie as tie
 use Rattle.tables.proofs.unrouted.unrouted_of.Reads as reads
 use Rattle.tables.proofs.unrouted.unrouted_of.Lts as lts
-use Rattle.tables.proofs.codes.confirm_of.Reads as confirm-of-reads
-use Rattle.tables.proofs.codes.priority_of.Reads as priority-of-reads
+use Rattle.codes.proofs.confirm_of.Reads as confirm-of-reads
+use Rattle.codes.proofs.priority_of.Reads as priority-of-reads
 
 priority-of-requires : tie.Need-priority-of-requires
 priority-of-requires c κs = search needs
