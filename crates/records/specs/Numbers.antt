@@ -1,6 +1,6 @@
 -- 01's numbers: of each refusal, of each failure and verdict; and the settings before any are given.
 use Prim.Native.Nat.{ℕ}
-use Rattle.records.specs.Types.{Refusal, TimeTooLate, IdsExhausted, NoCopies, NoPlace, NoSuchSend, InTheRadio, NotInTheRadio, OtherFrame, DestinationNotHeld, ResultsMismatch, MapMalformed, UnknownKind, RecordCut, FieldMalformed, AnswersDoNotFit, TraceTooLong, SendFailure, HandoffTimeout, ApsAckTimeout, IndirectExpired, RouteDiscoveryTimeout, BroadcastQuorumNotReached, Cancelled, Verdict, Success, Failure, Code, Settings}
+use Rattle.records.specs.Types.{Refusal, TimeTooLate, IdsExhausted, NoCopies, NoPlace, NoSuchSend, InTheRadio, NotInTheRadio, OtherFrame, DestinationNotHeld, ResultsMismatch, MapMalformed, UnknownKind, RecordCut, FieldMalformed, AnswersDoNotFit, TraceTooLong, SendFailure, HandoffTimeout, ApsAckTimeout, IndirectExpired, RouteDiscoveryTimeout, BroadcastQuorumNotReached, Cancelled, Verdict, Success, Failure, Code, Settings, Address, Absent}
 
 abbrev pub refusalNumber : Refusal → ℕ
 refusalNumber TimeTooLate = 1
@@ -32,6 +32,22 @@ abbrev pub verdictNumber : Verdict → ℕ
 verdictNumber Success = 0
 verdictNumber (Failure f) = failureNumber f
 verdictNumber (Code c) = 7
+
+-- what a verdict says besides its number: the address that was never polled from, and the caller's code
+abbrev pub verdictAddress : Verdict → Address
+verdictAddress Success = Absent
+verdictAddress (Failure HandoffTimeout) = Absent
+verdictAddress (Failure ApsAckTimeout) = Absent
+verdictAddress (Failure (IndirectExpired a)) = a
+verdictAddress (Failure RouteDiscoveryTimeout) = Absent
+verdictAddress (Failure BroadcastQuorumNotReached) = Absent
+verdictAddress (Failure Cancelled) = Absent
+verdictAddress (Code c) = Absent
+
+abbrev pub verdictCode : Verdict → ℕ
+verdictCode Success = 0
+verdictCode (Failure f) = 0
+verdictCode (Code c) = c
 
 abbrev pub defaultSettings : Settings
 defaultSettings = record { «handoff_timeout» = 8000; «persistence_time» = 7680; «unicast_retries» = 3; «discovery_attempts» = 3 }

@@ -1,10 +1,11 @@
 // The numbers under which refusals and verdicts are told, and the default settings.
+use crate::Address;
 use crate::Refusal;
 use crate::SendFailure;
 use crate::Settings;
 use crate::Verdict;
 ghost use mathlib.Core.Path.{_≡_};
-ghost use Rattle.records.specs.Numbers.{refusalNumber, failureNumber, verdictNumber, defaultSettings};
+ghost use Rattle.records.specs.Numbers.{refusalNumber, failureNumber, verdictNumber, verdictAddress, verdictCode, defaultSettings};
 
 pub fn refusal_number(r: Refusal) -> u8
     ensures { λ n. ⌜ n ≡ refusalNumber r ⌝ }
@@ -49,6 +50,35 @@ pub fn verdict_number(v: Verdict) -> u8
         Verdict::Success => 0,
         Verdict::Failure(f) => failure_number(f),
         Verdict::Code(_) => 7,
+    }
+}
+
+// The address that was never polled from, where the verdict has one.
+pub fn verdict_address(v: Verdict) -> Address
+    ensures { λ a. ⌜ a ≡ verdictAddress v ⌝ }
+{
+    match v {
+        Verdict::Success => Address::Absent,
+        Verdict::Failure(f) => match f {
+            SendFailure::HandoffTimeout => Address::Absent,
+            SendFailure::ApsAckTimeout => Address::Absent,
+            SendFailure::IndirectExpired(a) => a,
+            SendFailure::RouteDiscoveryTimeout => Address::Absent,
+            SendFailure::BroadcastQuorumNotReached => Address::Absent,
+            SendFailure::Cancelled => Address::Absent,
+        },
+        Verdict::Code(_) => Address::Absent,
+    }
+}
+
+// The caller's code, where the verdict has one, and 0 elsewhere.
+pub fn verdict_code(v: Verdict) -> u16
+    ensures { λ c. ⌜ c ≡ verdictCode v ⌝ }
+{
+    match v {
+        Verdict::Success => 0,
+        Verdict::Failure(_) => 0,
+        Verdict::Code(c) => c,
     }
 }
 

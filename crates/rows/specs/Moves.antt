@@ -27,10 +27,14 @@ kept (Keeps y) = y ∷ []
 kept (HandsOff y) = y ∷ []
 kept (Settles again v h) = []
 
+-- what is told of a settled send, its handoff again first or not
+abbrev pub settling : Entry → Bool → Verdict → Opt16 → List Action
+settling e again v h = pick again (HandedOff (e .id) (e .waiter) ∷ Settled e v h ∷ []) (Settled e v h ∷ [])
+
 abbrev pub told : {A : Type 0} → Entry → Turn A → List Action
 told e (Keeps y) = []
 told e (HandsOff y) = HandedOff (e .id) (e .waiter) ∷ []
-told e (Settles again v h) = pick again (HandedOff (e .id) (e .waiter) ∷ Settled e v h ∷ []) (Settled e v h ∷ [])
+told e (Settles again v h) = settling e again v h
 
 module _ {A : Type 0} where
   -- every record has its turn
