@@ -5,3 +5,4 @@ pub mod Numbers
 pub mod Priorities
 pub mod Same
 pub mod Records
+pub mod Times

@@ -3,6 +3,7 @@ pub mod blanks;
 pub mod compare;
 pub mod numbers;
 pub mod priorities;
+pub mod times;
 
 // An optional number of each width. The first variant is the absent one, so that a blank record has nothing in it.
 pub enum Opt8 {

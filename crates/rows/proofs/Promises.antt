@@ -1,8 +1,9 @@
 -- What the table part promises, and all that the crates above may cite of it. Of lists in rising key: what inserting and removing keep, how many
 -- they leave, and what is found after them. Of a held table: what its places hold, and when an insert is refused. Of the four moves: what each does to
 -- order, length, look-up and counts, and how code that finds, stores and removes makes them. Over any kind of table. Assumes nothing.
-use Prim.Native.Nat.{ℕ, zero, suc, _+_, _≤_, _<_}
+use Prim.Native.Nat.{ℕ, zero, suc, _+_, _-_, _≤_, _<_}
 use native.Mathlib.Numerals.{add-one}
+use native.Mathlib.Nat.{zero-add, add-zero, add-suc, suc-add}
 use native.Mathlib.Omega.{arith}
 use mathlib.Core.Path.{_≡_, refl, sym, ap, _∙_, subst⁻¹}
 use mathlib.Core.Bool.{Bool, true, false}
@@ -18,11 +19,13 @@ use lib.Dec.{ltb, leb, eqb}
 use borrow.Author.Tests.{lt-ltb, le-ltb, eq-eqb, ne-eqb, lt-leb, leb-false}
 use Rattle.records.specs.Pick.{pick, bit}
 use Rattle.records.proofs.Cases.{lt-or-le, eq-or-ne, either}
-use Rattle.rows.specs.Lists.{placeOf, findBy, lookup, insertBy, removeBy, insertAt, removeAt, Rising, placeAt, insertedOf}
+use Rattle.rows.specs.Lists.{placeOf, findBy, lookup, insertBy, removeBy, insertAt, removeAt, fold, Rising, placeAt, insertedOf}
+use Rattle.rows.specs.declared.Place.{Place}
 use Rattle.rows.specs.declared.Place.the-variants.{Nowhere, Here}
+use Rattle.rows.specs.declared.Inserted.{Inserted}
 use Rattle.rows.specs.declared.Inserted.the-variants.{Full, Holding}
-use Rattle.rows.specs.Tables.{Table, rowsOf, live, Held}
-use Rattle.rows.specs.Moves.{Turn, kept, told, each, atFirst, firstOf, firstAt, placed, anyOf, count, eachTold, atFirstTold, idOf, hasId, settledOf}
+use Rattle.rows.specs.Tables.{Table, rowsOf, live, Held, Holds, Then, Entered}
+use Rattle.rows.specs.Moves.{Turn, kept, told, each, atFirst, firstOf, firstAt, placeFrom, placed, anyOf, count, eachTold, atFirstTold, idOf, hasId, settledOf}
 use Rattle.rows.specs.Moves.Turn.{Keeps, HandsOff, Settles}
 use Rattle.rows.proofs.Search.{length-rows}
 use Rattle.rows.proofs.Flat.{length-insertAt, length-removeAt}
@@ -573,3 +576,95 @@ module _ {A : Type 0} where
 
   pub told-end : (entry : A → Entry) (f : A → Turn A) (i : ℕ) (xs : List A) → length xs ≤ i → toldFrom entry f i xs ≡ []
   told-end entry f i xs h = ap (eachTold entry f) (drop-of-length-le xs h)
+
+  -- ---- how code asks: a scan for the first, and a fold from the last
+
+  -- the answer of a scan is the place of the first
+  pub scan-first : (q : A → Bool) (xs : List A) → placeFrom q 0 xs ≡ placeAt (firstAt q xs)
+  scan-first q xs = from 0 xs ∙ ap placeAt (bare (firstAt q xs))
+    where
+      bare : (o : Option ℕ) → Option·map (λ (j : ℕ). 0 + j) o ≡ o
+      bare none = refl
+      bare (some j) = ap some (zero-add j)
+
+      past : (i : ℕ) (o : Option ℕ) → Option·map (λ (j : ℕ). suc i + j) o ≡ Option·map (λ (j : ℕ). i + j) (Option·map suc o)
+      past i none = refl
+      past i (some j) = ap some (suc-add i j ∙ sym (add-suc i j))
+
+      from : (i : ℕ) (xs : List A) → placeFrom q i xs ≡ placeAt (Option·map (λ (j : ℕ). i + j) (firstAt q xs))
+      from i [] = refl
+      from i (x ∷ xs) = go (q x) (from (suc i) xs)
+        where
+          go : (b : Bool) → placeFrom q (suc i) xs ≡ placeAt (Option·map (λ (j : ℕ). suc i + j) (firstAt q xs))
+              → pick b (Here i) (placeFrom q (suc i) xs) ≡ placeAt (Option·map (λ (j : ℕ). i + j) (pick b (some 0) (Option·map suc (firstAt q xs))))
+          go true h = ap Here (sym (add-zero i))
+          go false h = h ∙ ap placeAt (past i (firstAt q xs))
+
+module _ {A : Type 0} {t : Table A} {ws : List ℕ} {n : ℕ} (h : Held t ws n) where
+  room : n ≤ length (rowsOf t ws)
+  room = omega (arith, length-rowsOf t ws, h .within)
+
+  -- the scan has come to place i: the record there has the test or not, or there is none
+  module _ (q : A → Bool) (i : ℕ) {p : Place} (inv : placeFrom q i (drop i (live t ws n)) ≡ p) where
+    pub scan-on : i < n → q (getD (rowsOf t ws) i (t .blank)) ≡ false → placeFrom q (i + 1) (drop (i + 1) (live t ws n)) ≡ p
+    scan-on l e =
+        let c : placeFrom q i (getD (rowsOf t ws) i (t .blank) ∷ drop (i + 1) (live t ws n)) ≡ p =
+        ap (placeFrom q i) (sym (live-cons (rowsOf t ws) n i (t .blank) l room)) ∙ inv in
+        ap (λ (j : ℕ). placeFrom q j (drop (i + 1) (live t ws n))) (add-one i)
+        ∙ sym (ap (λ (b : Bool). pick b (Here i) (placeFrom q (suc i) (drop (i + 1) (live t ws n)))) e) ∙ c
+
+    pub scan-here : i < n → q (getD (rowsOf t ws) i (t .blank)) ≡ true → Here i ≡ p
+    scan-here l e =
+        let c : placeFrom q i (getD (rowsOf t ws) i (t .blank) ∷ drop (i + 1) (live t ws n)) ≡ p =
+        ap (placeFrom q i) (sym (live-cons (rowsOf t ws) n i (t .blank) l room)) ∙ inv in
+        sym (ap (λ (b : Bool). pick b (Here i) (placeFrom q (suc i) (drop (i + 1) (live t ws n)))) e) ∙ c
+
+    pub scan-end : n ≤ i → Nowhere ≡ p
+    scan-end l = ap (placeFrom q i) (sym (live-done (rowsOf t ws) n i l room)) ∙ inv
+
+  -- the fold has come down to place i
+  module _ {B : Type 0} (f : A → B → B) (z : B) where
+    pub fold-start : z ≡ fold f z (drop n (live t ws n))
+    fold-start = ap (fold f z) (sym (live-done (rowsOf t ws) n n (omega arith) room))
+
+    pub fold-turn : (i : ℕ) (b : B) → 0 < i → i ≤ n → b ≡ fold f z (drop i (live t ws n))
+        → f (getD (rowsOf t ws) (i - 1) (t .blank)) b ≡ fold f z (drop (i - 1) (live t ws n))
+    fold-turn i b o l e =
+        let k : i - 1 + 1 ≡ i = omega arith in
+        let m : i - 1 < n = omega arith in
+        ap (f (getD (rowsOf t ws) (i - 1) (t .blank))) (e ∙ ap (λ (j : ℕ). fold f z (drop j (live t ws n))) (sym k))
+        ∙ sym (ap (fold f z) (live-cons (rowsOf t ws) n (i - 1) (t .blank) m room))
+
+    pub fold-end : (i : ℕ) (b : B) → i ≤ 0 → b ≡ fold f z (drop i (live t ws n)) → b ≡ fold f z (live t ws n)
+    fold-end i b o e =
+        let k : i ≡ 0 = omega arith in
+        e ∙ ap (λ (j : ℕ). fold f z (drop j (live t ws n))) k
+
+-- ---- one outcome: any two that a table's contract admits are equal
+
+module _ {A : Type 0} {t : Table A} where
+  -- a held table holds its live records
+  pub held-holds : {ws : List ℕ} {n : ℕ} → Held t ws n → Holds t ws n (live t ws n)
+  held-holds h = record { is = h .words; live-is = refl; held = h }
+
+  -- there are as many as the list has
+  pub holds-count : {ws : List ℕ} {n : ℕ} {xs : List A} → Holds t ws n xs → n ≡ length xs
+  holds-count h = sym (held-length (h .held)) ∙ ap length (h .live-is)
+
+  -- one list, one table
+  pub holds-one : {ws ws′ : List ℕ} {n n′ : ℕ} {xs : List A} → Holds t ws n xs → Holds t ws′ n′ xs → (ws ≡ ws′) × (n ≡ n′)
+  holds-one h h′ = (h .is ∙ sym (h′ .is), holds-count h ∙ sym (holds-count h′))
+
+  -- an insert has one outcome
+  pub entered-one : {ws ws′ ws″ : List ℕ} {n : ℕ} {u : A} {r r′ : Inserted} → Entered t ws n u ws′ r → Entered t ws n u ws″ r′ → (ws′ ≡ ws″) × (r ≡ r′)
+  entered-one {ws} {ws′} {ws″} {n} {u} {r} {r′} e e′ =
+      let same : r ≡ r′ = e .answer ∙ sym (e′ .answer) in
+      (words r (e .table) (subst⁻¹ (Then t ws n u ws″) same (e′ .table)), same)
+    where
+      words : (r : Inserted) → Then t ws n u ws′ r → Then t ws n u ws″ r → ws′ ≡ ws″
+      words Full a b = a ∙ sym b
+      words (Holding m) a b = holds-one a b .0
+
+  -- where a place is free, an insert is not refused
+  pub never-full : {ws ws′ : List ℕ} {n : ℕ} {u : A} {r : Inserted} → Held t ws n → n < t .room → Entered t ws n u ws′ r → r ≡ Full → ⊥
+  never-full {u = u} h l e f = let m = full-means h u (sym (e .answer) ∙ f) in omega (arith, m .1)

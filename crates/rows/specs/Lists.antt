@@ -27,6 +27,11 @@ module _ {A : Type 0} where
   insertAt (suc n) a [] = a ∷ []
   insertAt (suc n) a (x ∷ xs) = x ∷ insertAt n a xs
 
+  -- f at each record, from the last to the first, starting with z
+  abbrev pub fold : {B : Type 0} → (A → B → B) → B → List A → B
+  fold f z [] = z
+  fold f z (x ∷ xs) = f x (fold f z xs)
+
   -- every record has the property
   abbrev pub All : (A → Type 0) → List A → Type 0
   All P [] = Unit {0}

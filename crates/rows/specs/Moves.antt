@@ -8,6 +8,8 @@ use mathlib.Core.Option.{Option, none, some, Option·map}
 use lib.ListN.{set}
 use lib.Dec.{eqb}
 use Rattle.records.specs.Pick.{pick, bit}
+use Rattle.rows.specs.declared.Place.{Place}
+use Rattle.rows.specs.declared.Place.the-variants.{Nowhere, Here}
 use Rattle.rows.specs.Lists.{removeAt}
 use Rattle.records.specs.declared.Opt16.{Opt16}
 use Rattle.records.specs.declared.Verdict.{Verdict}
@@ -56,6 +58,11 @@ module _ {A : Type 0} where
   abbrev pub firstAt : (A → Bool) → List A → Option ℕ
   firstAt q [] = none
   firstAt q (x ∷ xs) = pick (q x) (some 0) (Option·map suc (firstAt q xs))
+
+  -- the same as an answer, the first record standing at place i
+  abbrev pub placeFrom : (A → Bool) → ℕ → List A → Place
+  placeFrom q i [] = Nowhere
+  placeFrom q i (x ∷ xs) = pick (q x) (Here i) (placeFrom q (suc i) xs)
 
   -- what becomes of the list where the record at i has that turn
   abbrev pub placed : Turn A → ℕ → List A → List A

@@ -1,0 +1,32 @@
+use Rattle.rows.proofs.Promises.{never-full}
+use borrow.Author.Needs.{needs}
+use Rattle.unrouted.proofs.hold.Statement.{statement}
+use Rattle.unrouted.proofs.hold.Tie as tie
+use Rattle.unrouted.proofs.hold.Reads as reads
+use Rattle.unrouted.proofs.hold.Lts as lts
+use Rattle.tables.proofs.destinations.insert.Reads as insert-reads
+use Rattle.unrouted.proofs.restarts.Reads as restarts-reads
+
+restarts-requires : tie.Need-restarts-requires
+restarts-requires c κs = search needs
+
+insert-requires : tie.Need-insert-requires
+insert-requires c κs = search needs
+
+enum-told : tie.Need-enum-told
+enum-told c = search needs
+
+enum-known-m : tie.Need-enum-known-m
+enum-known-m c = search needs
+
+returns : tie.Need-returns
+returns c = let s = c .before .before .before .before .before in absurd (never-full (s .pre .0) (s .pre .1) (c .before .before .insert .ensures) (c .enum-told .given .1))
+
+returns-2 : tie.Need-returns-2
+returns-2 c =
+    let e = rw (c .before .m .given .1) at (c .before .before .before .insert .ensures) in
+    rw (c .before .before .before .before .before .restarts .ensures) at (e .table)
+
+pub hold-spec : {M : Type 1} → statement M
+hold-spec =
+    tie.close (tie.spec restarts-requires insert-requires enum-told enum-known-m returns returns-2)
