@@ -33,7 +33,7 @@ verdictNumber Success = 0
 verdictNumber (Failure f) = failureNumber f
 verdictNumber (Code c) = 7
 
--- what a verdict says besides its number: the address that was never polled from, and the caller's code
+-- what a verdict says besides its number: the poll address of an expired send, and the caller's code
 abbrev pub verdictAddress : Verdict → Address
 verdictAddress Success = Absent
 verdictAddress (Failure HandoffTimeout) = Absent

@@ -53,7 +53,7 @@ pub fn verdict_number(v: Verdict) -> u8
     }
 }
 
-// The address that was never polled from, where the verdict has one.
+// The poll address of an expired send, where the verdict has one.
 pub fn verdict_address(v: Verdict) -> Address
     ensures { λ a. ⌜ a ≡ verdictAddress v ⌝ }
 {

@@ -18,8 +18,8 @@ use lib.Seq.{drop-cons, getD-take, length-take-le, drop-set-lt}
 use lib.Dec.{ltb, leb, eqb}
 use borrow.Author.Tests.{lt-ltb, le-ltb, eq-eqb, ne-eqb, lt-leb, leb-false}
 use Rattle.records.specs.Pick.{pick, bit}
-use Rattle.records.proofs.Cases.{lt-or-le, eq-or-ne, either}
-use Rattle.rows.specs.Lists.{placeOf, findBy, lookup, insertBy, removeBy, insertAt, removeAt, fold, Rising, placeAt, insertedOf}
+use Rattle.records.proofs.Cases.{lt-or-le, eq-or-ne, either, never}
+use Rattle.rows.specs.Lists.{placeOf, findBy, lookup, insertBy, removeBy, insertAt, removeAt, fold, All, Rising, placeAt, insertedOf}
 use Rattle.rows.specs.declared.Place.{Place}
 use Rattle.rows.specs.declared.Place.the-variants.{Nowhere, Here}
 use Rattle.rows.specs.declared.Inserted.{Inserted}
@@ -417,6 +417,68 @@ module _ {A : Type 0} (entry : A → Entry) where
       rw (eq-eqb (idOf entry x) i e) (turn-lookup i x xs (f x) (s x) ∙ rw (eq-eqb (idOf entry x) i e, past) (stays-or (stays (f x)))))
       (λ m. rw (ne-eqb (idOf entry x) i m, ne-eqb (idOf entry x) i m) (lookup-first-same i f s (suc (idOf entry x)) xs (r .1)))
       (eq-or-ne (idOf entry x) i)
+
+  -- the first with any test: its own id has what its turn leaves, every other id what it had
+  pub lookup-turned : (q : A → Bool) (f : A → Turn A) → ((x : A) → Same x (f x)) → (lo k : ℕ) (xs : List A) (x : A) → Rising (idOf entry) lo xs → firstOf q xs ≡ some x
+      → lookup (idOf entry) k (atFirst q f xs) ≡ pick (eqb (idOf entry x) k) (stays (f x)) (lookup (idOf entry) k xs)
+  lookup-turned q f s lo k [] x r e = let z : _≡_ {A = ℕ} 0 1 = cc in absurd (omega arith)
+  lookup-turned q f s lo k (y ∷ ys) x r e = go (q y) e (lookup-turned q f s (suc (idOf entry y)) k ys x (r .1))
+    where
+      found-past : (zs : List A) (lo′ : ℕ) → Rising (idOf entry) lo′ zs → firstOf q zs ≡ some x → lo′ ≤ idOf entry x
+      found-past [] lo′ t f = let z : _≡_ {A = ℕ} 0 1 = cc in absurd (omega arith)
+      found-past (z ∷ zs) lo′ t f = cases (q z) f (found-past zs (suc (idOf entry z)) (t .1))
+        where
+          cases : (b : Bool) → pick b (some z) (firstOf q zs) ≡ some x → (firstOf q zs ≡ some x → suc (idOf entry z) ≤ idOf entry x) → lo′ ≤ idOf entry x
+          cases true g ih = let i : z ≡ x = cc in rw (← i) (t .0)
+          cases false g ih = let l = ih g in omega (arith, t .0)
+
+      go : (b : Bool) → pick b (some y) (firstOf q ys) ≡ some x
+          → (firstOf q ys ≡ some x → lookup (idOf entry) k (atFirst q f ys) ≡ pick (eqb (idOf entry x) k) (stays (f x)) (lookup (idOf entry) k ys))
+          → lookup (idOf entry) k (pick b (kept (f y) ++ ys) (y ∷ atFirst q f ys)) ≡ pick (eqb (idOf entry x) k) (stays (f x)) (pick (eqb (idOf entry y) k) (some y) (lookup (idOf entry) k ys))
+      go true g ih =
+          let i : y ≡ x = cc in
+          rw (← i)
+          (⊎-elim
+          (λ e.
+          let past : lookup (idOf entry) k ys ≡ none = lookup-past (idOf entry) (suc (idOf entry y)) k ys (r .1) (omega arith) in
+          turn-lookup k y ys (f y) (s y) ∙ rw (eq-eqb (idOf entry y) k e, past) (stays-or (stays (f y))))
+          (λ n. turn-lookup k y ys (f y) (s y) ∙ rw (ne-eqb (idOf entry y) k n))
+          (eq-or-ne (idOf entry y) k))
+      go false g ih =
+          let l : suc (idOf entry y) ≤ idOf entry x = found-past ys (suc (idOf entry y)) (r .1) g in
+          ⊎-elim
+          (λ e. let n : idOf entry x ≡ k → ⊥ = λ q. omega arith in rw (eq-eqb (idOf entry y) k e, ne-eqb (idOf entry x) k n))
+          (λ n. rw (ne-eqb (idOf entry y) k n) (ih g))
+          (eq-or-ne (idOf entry y) k)
+
+-- ---- the first with a test is the oldest
+
+module _ {A : Type 0} (key : A → ℕ) (q : A → Bool) where
+  -- what is found has the test
+  pub first-has : (xs : List A) (x : A) → firstOf q xs ≡ some x → q x ≡ true
+  first-has [] x e = let z : _≡_ {A = ℕ} 0 1 = cc in absurd (omega arith)
+  first-has (y ∷ ys) x e = go (q y) refl e (first-has ys x)
+    where
+      go : (b : Bool) → q y ≡ b → pick b (some y) (firstOf q ys) ≡ some x → (firstOf q ys ≡ some x → q x ≡ true) → q x ≡ true
+      go true h f ih = let e : y ≡ x = cc in rw e at h
+      go false h f ih = ih f
+
+  -- and no record with the test has a lower key
+  pub first-oldest : (lo : ℕ) (xs : List A) (x : A) → Rising key lo xs → firstOf q xs ≡ some x → All (λ (y : A). q y ≡ true → key x ≤ key y) xs
+  first-oldest lo [] x r e = tt
+  first-oldest lo (y ∷ ys) x r e = go (q y) refl e (first-oldest (suc (key y)) ys x (r .1))
+    where
+      later : (b : ℕ) (zs : List A) → Rising key b zs → key x ≤ b → All (λ (z : A). q z ≡ true → key x ≤ key z) zs
+      later b [] t l = tt
+      later b (z ∷ zs) t l = ((λ h. omega (arith, t .0)), later (suc (key z)) zs (t .1) (omega (arith, t .0)))
+
+      go : (b : Bool) → q y ≡ b → pick b (some y) (firstOf q ys) ≡ some x → (firstOf q ys ≡ some x → All (λ (z : A). q z ≡ true → key x ≤ key z) ys)
+          → (q y ≡ true → key x ≤ key y) × All (λ (z : A). q z ≡ true → key x ≤ key z) ys
+      go true h f ih =
+          let i : y ≡ x = cc in
+          let k : key x ≡ key y = ap key (sym i) in
+          ((λ g. omega arith), later (suc (key y)) ys (r .1) (omega arith))
+      go false h f ih = ((λ g. never (sym h ∙ g)), ih f)
 
 -- ---- length
 

@@ -165,12 +165,12 @@ pub fn first_to(w: &[u64; 112], n: usize, destination: u16) -> Place
     requires { ⌜ Held unroutedTable (now w) n ⌝ }
     ensures { λ r. ⌜ r ≡ placeAt (firstAt (goesTo destination) (live unroutedTable (now (w .entry)) n)) ⌝ }
 {
-    let mut i: usize = 0;
-    while i < n {
-        if chosen(tables::unrouted::head(w, i), Which::Bound(destination)) {
-            return Place::Here(i);
+    let mut at: usize = 0;
+    while at < n {
+        if chosen(tables::unrouted::head(w, at), Which::Bound(destination)) {
+            return Place::Here(at);
         }
-        i = i + 1;
+        at = at + 1;
     }
     Place::Nowhere
 }

@@ -19,11 +19,11 @@ use Rattle.tables.proofs.unrouted.head.Reads as head-reads
 use Rattle.unrouted.proofs.chosen.Reads as chosen-reads
 
 abbrev Inv-loop : tie.InvT-loop
-Inv-loop w n destination i₀ i =
-    (i ≤ n) × (placeFrom (goesTo destination) i (drop i (live unroutedTable w n)) ≡ placeAt (firstAt (goesTo destination) (live unroutedTable w n)))
+Inv-loop w n destination at₀ at =
+    (at ≤ n) × (placeFrom (goesTo destination) at (drop at (live unroutedTable w n)) ≡ placeAt (firstAt (goesTo destination) (live unroutedTable w n)))
 
 abbrev μ-loop : tie.MeasureT-loop
-μ-loop w n destination i₀ i = n - i
+μ-loop w n destination at₀ at = n - at
 
 loop-holds : tie.Need-loop-holds Inv-loop μ-loop
 loop-holds c = (omega arith, scan-first (goesTo (c .args .destination)) (live unroutedTable (c .args .w .now) (c .args .n)))
@@ -38,11 +38,11 @@ returns : tie.Need-returns Inv-loop μ-loop
 returns c =
     let s = c .before .before .before .before .before in
     let at = c .before .before .before .before .loop in
-    scan-here (s .pre) (goesTo (s .args .destination)) (at .i) (at .inv .1) (omega arith)
-    (tested (Bound (s .args .destination)) (rowAt (s .args .w .now) (at .i)) (c .before .before .head .ensures) (c .before .chosen .ensures) (c .if1 .taken))
+    scan-here (s .pre) (goesTo (s .args .destination)) (at .at) (at .inv .1) (omega arith)
+    (tested (Bound (s .args .destination)) (rowAt (s .args .w .now) (at .at)) (c .before .before .head .ensures) (c .before .chosen .ensures) (c .if1 .taken))
 
-add-i : tie.Need-add-i Inv-loop μ-loop
-add-i c = search needs
+add-at : tie.Need-add-at Inv-loop μ-loop
+add-at c = search needs
 
 loop-less : tie.Need-loop-less Inv-loop μ-loop
 loop-less c = search needs
@@ -52,14 +52,14 @@ loop-again c =
     let s = c .before .before .before .before .before in
     let at = c .before .before .before .before .loop in (
       omega arith,
-      scan-on (s .pre) (goesTo (s .args .destination)) (at .i) (at .inv .1) (omega arith)
-          (tested (Bound (s .args .destination)) (rowAt (s .args .w .now) (at .i)) (c .before .before .head .ensures) (c .before .chosen .ensures) (c .if1 .left)),
+      scan-on (s .pre) (goesTo (s .args .destination)) (at .at) (at .inv .1) (omega arith)
+          (tested (Bound (s .args .destination)) (rowAt (s .args .w .now) (at .at)) (c .before .before .head .ensures) (c .before .chosen .ensures) (c .if1 .left)),
     )
 
 returns-2 : tie.Need-returns-2 Inv-loop μ-loop
 returns-2 c =
     let s = c .before .before in
-    scan-end (s .pre) (goesTo (s .args .destination)) (c .before .loop .i) (c .before .loop .inv .1) (omega arith)
+    scan-end (s .pre) (goesTo (s .args .destination)) (c .before .loop .at) (c .before .loop .inv .1) (omega arith)
 
 pub first-to-spec : {M : Type 1} → statement M
 first-to-spec =
@@ -71,7 +71,7 @@ first-to-spec =
     head-requires
     chosen-requires
     returns
-    add-i
+    add-at
     loop-less
     loop-again
     returns-2)
