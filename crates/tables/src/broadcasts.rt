@@ -98,6 +98,16 @@ pub fn head(w: &[u64; 112], i: usize) -> BroadcastHead
     }
 }
 
+// The schedule of the record at a place.
+pub fn schedule(w: &[u64; 112], i: usize) -> Schedule
+    requires { ⌜ i < 16 ⌝ }
+    ensures { λ r. ⌜ r ≡ getD (rowsOf broadcastTable (now (w .entry))) i blankBroadcast .schedule ⌝ }
+{
+    let k = i * 7;
+    let tags = w[k + 6];
+    codes::schedule_of(tags / 128 % 4, tags / 512 % 256, w[k + 5], w[k + 4])
+}
+
 fn tags_of(b: Broadcast) -> u64
     ensures { λ r. ⌜ BroadcastTagged b r ⌝ }
 {

@@ -1,0 +1,69 @@
+use Rattle.broadcasts.specs.Rules.{bestHead, bestStep, bestOf}
+use Rattle.broadcasts.specs.Types.{BroadcastHead, NoBest}
+use Rattle.rows.proofs.Promises.{fold-start, fold-turn, fold-end}
+use Rattle.tables.specs.Layouts.{broadcastTable}
+use Rattle.rows.specs.Tables.{live}
+use lib.ListN.{drop}
+use mathlib.Core.Path.{_≡_, ap, _∙_}
+use native.Mathlib.Omega.{arith}
+use Prim.Native.Nat.{_≤_}
+use borrow.Author.Needs.{needs}
+use Rattle.broadcasts.proofs.asks.best_queued.Statement.{statement}
+use Rattle.broadcasts.proofs.asks.best_queued.Tie as tie
+use Rattle.broadcasts.proofs.asks.best_queued.Reads as reads
+use Rattle.broadcasts.proofs.asks.best_queued.Lts as lts
+use Rattle.broadcasts.proofs.heads.best.Reads as best-reads
+use Rattle.tables.proofs.broadcasts.head.Reads as head-reads
+
+abbrev Inv-loop : tie.InvT-loop
+Inv-loop w n clock best₀ i₀ best i = (i ≤ n) × (best ≡ bestOf clock (drop i (live broadcastTable w n)))
+
+abbrev μ-loop : tie.MeasureT-loop
+μ-loop w n clock best₀ i₀ best i = i
+
+loop-holds : tie.Need-loop-holds Inv-loop μ-loop
+loop-holds c = (omega arith, fold-start (c .pre) (bestStep (c .args .clock)) NoBest)
+
+sub-head : tie.Need-sub-head Inv-loop μ-loop
+sub-head c = search needs
+
+head-requires : tie.Need-head-requires Inv-loop μ-loop
+head-requires c κs = omega (arith, c .before .before .pre .within)
+
+best-requires : tie.Need-best-requires Inv-loop μ-loop
+best-requires c κs = search needs
+
+sub-i : tie.Need-sub-i Inv-loop μ-loop
+sub-i c = search needs
+
+loop-less : tie.Need-loop-less Inv-loop μ-loop
+loop-less c = search needs
+
+loop-again : tie.Need-loop-again Inv-loop μ-loop
+loop-again c =
+    let s = c .before .before .before .before in
+    let at = c .before .before .before .loop in (
+      omega arith,
+      c .best .ensures ∙ ap (λ (h : BroadcastHead). bestHead (s .args .clock) h (at .best)) (c .before .head .ensures)
+          ∙ fold-turn (s .pre) (bestStep (s .args .clock)) NoBest (at .i) (at .best) (omega arith) (omega arith) (at .inv .1),
+    )
+
+returns : tie.Need-returns Inv-loop μ-loop
+returns c =
+    let s = c .before .before in
+    fold-end (s .pre) (bestStep (s .args .clock)) NoBest (c .before .loop .i) (c .before .loop .best) (omega arith) (c .before .loop .inv .1)
+
+pub best-queued-spec : {M : Type 1} → statement M
+best-queued-spec =
+    tie.close
+    (tie.spec
+    Inv-loop
+    μ-loop
+    loop-holds
+    sub-head
+    head-requires
+    best-requires
+    sub-i
+    loop-less
+    loop-again
+    returns)

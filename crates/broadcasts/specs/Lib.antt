@@ -1,0 +1,4 @@
+pub mod Types
+pub mod Rules
+pub mod Calls
+pub mod Claims

@@ -1,0 +1,65 @@
+// The questions about the lent table: w holds n broadcasts.
+use crate::Awaited;
+use crate::Best;
+use records::Opt64;
+use rows::Place;
+ghost use mathlib.Core.Path.{_≡_};
+ghost use Prim.Native.Nat.{_<_};
+ghost use lib.ListN.{getD};
+ghost use Rattle.records.specs.Records.{blankBroadcast};
+ghost use Rattle.rows.specs.Tables.{rowsOf, live, Held};
+ghost use Rattle.tables.specs.Layouts.{broadcastTable, broadcastHead};
+ghost use Rattle.broadcasts.specs.Rules.{bestOf, wakeOf, isTransmitting, awaitedHead};
+
+// The best queued one: of the highest priority, and then of the lowest id. One past its deadline is left for the tick.
+pub fn best_queued(w: &[u64; 112], n: usize, clock: u64) -> Best
+    requires { ⌜ Held broadcastTable (now w) n ⌝ }
+    ensures { λ r. ⌜ r ≡ bestOf clock (live broadcastTable (now (w .entry)) n) ⌝ }
+{
+    let mut best = Best::NoBest;
+    let mut i = n;
+    while 0 < i {
+        let h = tables::broadcasts::head(w, i - 1);
+        best = crate::heads::best(h, clock, best);
+        i = i - 1;
+    }
+    best
+}
+
+// When a tick next has something to do.
+pub fn next_wake(w: &[u64; 112], n: usize) -> Opt64
+    requires { ⌜ Held broadcastTable (now w) n ⌝ }
+    ensures { λ r. ⌜ r ≡ wakeOf (live broadcastTable (now (w .entry)) n) ⌝ }
+{
+    let mut wake = Opt64::None64;
+    let mut i = n;
+    while 0 < i {
+        let h = tables::broadcasts::head(w, i - 1);
+        wake = crate::heads::wake(h, wake);
+        i = i - 1;
+    }
+    wake
+}
+
+// Whether the broadcast with that id is in the radio.
+pub fn is_transmitting(w: &[u64; 112], n: usize, id: u32) -> bool
+    requires { ⌜ Held broadcastTable (now w) n ⌝ }
+    ensures { λ r. ⌜ r ≡ isTransmitting id (live broadcastTable (now (w .entry)) n) ⌝ }
+{
+    match tables::broadcasts::find(w, n, id) {
+        Place::Nowhere => false,
+        Place::Here(i) => {
+            let h = tables::broadcasts::head(w, i);
+            let c = h.copy;
+            crate::turns::in_radio(c)
+        }
+    }
+}
+
+// The key whose quorum the broadcast at a place waits for.
+pub fn awaited_at(w: &[u64; 112], i: usize) -> Awaited
+    requires { ⌜ i < 16 ⌝ }
+    ensures { λ r. ⌜ r ≡ awaitedHead (broadcastHead (getD (rowsOf broadcastTable (now (w .entry))) i blankBroadcast)) ⌝ }
+{
+    crate::heads::awaited(tables::broadcasts::head(w, i))
+}
