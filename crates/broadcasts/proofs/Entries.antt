@@ -8,7 +8,8 @@ use Rattle.records.specs.Records.{broadcastEntry}
 use Rattle.records.specs.declared.Entry.{Entry}
 use Rattle.records.proofs.Cases.{either}
 use Rattle.rows.specs.Moves.{Turn, each, atFirst, count, eachTold, atFirstTold, hasId, settledOf}
-use Rattle.rows.proofs.Promises.{Same, entries, each-count, first-count}
+use Rattle.rows.specs.Moves.{Same}
+use Rattle.rows.proofs.Promises.{entries, each-count, first-count}
 use Rattle.broadcasts.specs.Types.{Schedule, Once, PassiveAck, FixedInterval, CopyState, Idle, CopyQueued, CopyTransmitting, Broadcast, QuorumKey, TxResult, Sent, Failed}
 use Rattle.broadcasts.specs.Rules.{remade, inRadio, keyed, dequeueTurn, cancelTurn, repeatTurn, reportBy, reportTurn, deliveredTurn, lapseTurn, dueTurn, idleTurn, tickBy, tickTurn}
 

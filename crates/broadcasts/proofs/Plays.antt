@@ -11,7 +11,8 @@ use Rattle.rows.specs.Lists.{removeAt}
 use Rattle.rows.specs.Tables.{Table, rowsOf, live, Held, Holds, Stands}
 use Rattle.rows.specs.Moves.{Turn, kept, told, placed}
 use Rattle.rows.specs.Moves.Turn.{Keeps, HandsOff, Settles}
-use Rattle.rows.proofs.Promises.{Same, held-length, held-at, eachFrom, toldFrom, each-stays, told-turn, told-stored}
+use Rattle.rows.specs.Moves.{Same}
+use Rattle.rows.proofs.Promises.{held-length, held-at, eachFrom, toldFrom, each-stays, told-turn, told-stored}
 use Rattle.tables.specs.Layouts.{broadcastTable}
 use Rattle.actions.specs.Told.{Told}
 use Rattle.actions.specs.Calls.{Played}

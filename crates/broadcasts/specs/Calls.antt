@@ -8,7 +8,7 @@ use Rattle.records.specs.Records.{blankBroadcast, broadcastId, broadcastEntry}
 use Rattle.rows.specs.Lists.{lookup}
 use Rattle.rows.specs.Tables.{rowsOf, live, Holds}
 use Rattle.rows.specs.Moves.{Turn, atFirst, hasId}
-use Rattle.rows.proofs.Promises.{Same}
+use Rattle.rows.specs.Moves.{Same}
 use Rattle.tables.specs.Layouts.{broadcastTable}
 use Rattle.actions.specs.Calls.{Turned}
 use Rattle.broadcasts.specs.Types.{Broadcast, Opt32, Refusal, Outcome, Refused, Done}

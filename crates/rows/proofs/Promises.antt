@@ -25,7 +25,7 @@ use Rattle.rows.specs.declared.Place.the-variants.{Nowhere, Here}
 use Rattle.rows.specs.declared.Inserted.{Inserted}
 use Rattle.rows.specs.declared.Inserted.the-variants.{Full, Holding}
 use Rattle.rows.specs.Tables.{Table, rowsOf, live, Held, Holds, Then, Entered}
-use Rattle.rows.specs.Moves.{Turn, kept, told, each, atFirst, firstOf, firstAt, placeFrom, placed, anyOf, count, eachTold, atFirstTold, idOf, hasId, settledOf}
+use Rattle.rows.specs.Moves.{Turn, kept, told, each, atFirst, firstOf, firstAt, placeFrom, placed, anyOf, count, eachTold, atFirstTold, idOf, hasId, Same, settledOf}
 use Rattle.rows.specs.Moves.Turn.{Keeps, HandsOff, Settles}
 use Rattle.rows.proofs.Search.{length-rows}
 use Rattle.rows.proofs.Flat.{length-insertAt, length-removeAt}
@@ -285,25 +285,19 @@ stays-or none = refl
 stays-or (some y) = refl
 
 module _ {A : Type 0} (entry : A → Entry) where
-  -- what a rule owes: the record that stays has the entry that it had
-  abbrev pub Same : A → Turn A → Type 0
-  Same x (Keeps y) = entry y ≡ entry x
-  Same x (HandsOff y) = entry y ≡ entry x
-  Same x (Settles again v h) = Unit {0}
-
   module _ (p : Entry → Bool) where
     -- how many entries of the list have the test
     abbrev pub entries : List A → ℕ
     entries xs = count (λ (y : A). p (entry y)) xs
 
-    turn-count : (x : A) (t : Turn A) → Same x t → bit (p (entry x)) ≡ entries (kept t) + count p (settledOf (told (entry x) t))
+    turn-count : (x : A) (t : Turn A) → Same entry x t → bit (p (entry x)) ≡ entries (kept t) + count p (settledOf (told (entry x) t))
     turn-count x (Keeps y) s = let e : bit (p (entry y)) ≡ bit (p (entry x)) = ap (λ (z : Entry). bit (p z)) s in omega arith
     turn-count x (HandsOff y) s = let e : bit (p (entry y)) ≡ bit (p (entry x)) = ap (λ (z : Entry). bit (p z)) s in omega arith
     turn-count x (Settles true v h) s = omega arith
     turn-count x (Settles false v h) s = omega arith
 
     -- the entries before are those that stay and those that are settled
-    pub each-count : (f : A → Turn A) → ((x : A) → Same x (f x)) → (xs : List A) → entries xs ≡ entries (each f xs) + count p (settledOf (eachTold entry f xs))
+    pub each-count : (f : A → Turn A) → ((x : A) → Same entry x (f x)) → (xs : List A) → entries xs ≡ entries (each f xs) + count p (settledOf (eachTold entry f xs))
     each-count f s [] = omega arith
     each-count f s (x ∷ xs) =
         omega (
@@ -314,7 +308,7 @@ module _ {A : Type 0} (entry : A → Entry) where
           settled-append p (told (entry x) (f x)) (eachTold entry f xs),
         )
 
-    pub first-count : (q : A → Bool) (f : A → Turn A) → ((x : A) → Same x (f x)) → (xs : List A)
+    pub first-count : (q : A → Bool) (f : A → Turn A) → ((x : A) → Same entry x (f x)) → (xs : List A)
         → entries xs ≡ entries (atFirst q f xs) + count p (settledOf (atFirstTold entry q f xs))
     first-count q f s [] = omega arith
     first-count q f s (x ∷ xs) = go (q x) (first-count q f s xs)
@@ -342,17 +336,17 @@ module _ {A : Type 0} (entry : A → Entry) where
 
   -- ---- order
 
-  turn-rising : (lo : ℕ) (x : A) (xs : List A) (t : Turn A) → Same x t → lo ≤ idOf entry x → Rising (idOf entry) (suc (idOf entry x)) xs
+  turn-rising : (lo : ℕ) (x : A) (xs : List A) (t : Turn A) → Same entry x t → lo ≤ idOf entry x → Rising (idOf entry) (suc (idOf entry x)) xs
       → Rising (idOf entry) lo (kept t ++ xs)
   turn-rising lo x xs (Keeps y) s h r = subst⁻¹ (λ (e : Entry). (lo ≤ e .id) × Rising (idOf entry) (suc (e .id)) xs) s (h, r)
   turn-rising lo x xs (HandsOff y) s h r = subst⁻¹ (λ (e : Entry). (lo ≤ e .id) × Rising (idOf entry) (suc (e .id)) xs) s (h, r)
   turn-rising lo x xs (Settles again v w) s h r = rising-lower (idOf entry) (suc (idOf entry x)) lo xs (omega arith) r
 
-  pub each-rising : (f : A → Turn A) → ((x : A) → Same x (f x)) → (lo : ℕ) (xs : List A) → Rising (idOf entry) lo xs → Rising (idOf entry) lo (each f xs)
+  pub each-rising : (f : A → Turn A) → ((x : A) → Same entry x (f x)) → (lo : ℕ) (xs : List A) → Rising (idOf entry) lo xs → Rising (idOf entry) lo (each f xs)
   each-rising f s lo [] r = tt
   each-rising f s lo (x ∷ xs) r = turn-rising lo x (each f xs) (f x) (s x) (r .0) (each-rising f s (suc (idOf entry x)) xs (r .1))
 
-  pub first-rising : (q : A → Bool) (f : A → Turn A) → ((x : A) → Same x (f x)) → (lo : ℕ) (xs : List A) → Rising (idOf entry) lo xs
+  pub first-rising : (q : A → Bool) (f : A → Turn A) → ((x : A) → Same entry x (f x)) → (lo : ℕ) (xs : List A) → Rising (idOf entry) lo xs
       → Rising (idOf entry) lo (atFirst q f xs)
   first-rising q f s lo [] r = tt
   first-rising q f s lo (x ∷ xs) r =
@@ -370,7 +364,7 @@ module _ {A : Type 0} (entry : A → Entry) where
   after f none = none
   after f (some x) = stays (f x)
 
-  turn-lookup : (k : ℕ) (x : A) (xs : List A) (t : Turn A) → Same x t
+  turn-lookup : (k : ℕ) (x : A) (xs : List A) (t : Turn A) → Same entry x t
       → lookup (idOf entry) k (kept t ++ xs) ≡ pick (eqb (idOf entry x) k) (pick (isSome (stays t)) (stays t) (lookup (idOf entry) k xs)) (lookup (idOf entry) k xs)
   turn-lookup k x xs (Keeps y) s = ap (λ (e : Entry). pick (eqb (e .id) k) (some y) (lookup (idOf entry) k xs)) s
   turn-lookup k x xs (HandsOff y) s = ap (λ (e : Entry). pick (eqb (e .id) k) (some y) (lookup (idOf entry) k xs)) s
@@ -381,7 +375,7 @@ module _ {A : Type 0} (entry : A → Entry) where
       same false = refl
 
   -- under each id stands what the turn of its record leaves
-  pub lookup-each : (f : A → Turn A) → ((x : A) → Same x (f x)) → (lo k : ℕ) (xs : List A) → Rising (idOf entry) lo xs
+  pub lookup-each : (f : A → Turn A) → ((x : A) → Same entry x (f x)) → (lo k : ℕ) (xs : List A) → Rising (idOf entry) lo xs
       → lookup (idOf entry) k (each f xs) ≡ after f (lookup (idOf entry) k xs)
   lookup-each f s lo k [] r = refl
   lookup-each f s lo k (x ∷ xs) r =
@@ -394,7 +388,7 @@ module _ {A : Type 0} (entry : A → Entry) where
       (eq-or-ne (idOf entry x) k)
 
   -- a turn of the record with one id leaves every other id as it was
-  pub lookup-first-other : (i k : ℕ) (f : A → Turn A) → ((x : A) → Same x (f x)) → (i ≡ k → ⊥) → (xs : List A)
+  pub lookup-first-other : (i k : ℕ) (f : A → Turn A) → ((x : A) → Same entry x (f x)) → (i ≡ k → ⊥) → (xs : List A)
       → lookup (idOf entry) k (atFirst (hasId entry i) f xs) ≡ lookup (idOf entry) k xs
   lookup-first-other i k f s n [] = refl
   lookup-first-other i k f s n (x ∷ xs) =
@@ -407,7 +401,7 @@ module _ {A : Type 0} (entry : A → Entry) where
       (ap (pick (eqb (idOf entry x) k) (some x)) (lookup-first-other i k f s n xs)))
       (eq-or-ne (idOf entry x) i)
 
-  pub lookup-first-same : (i : ℕ) (f : A → Turn A) → ((x : A) → Same x (f x)) → (lo : ℕ) (xs : List A) → Rising (idOf entry) lo xs
+  pub lookup-first-same : (i : ℕ) (f : A → Turn A) → ((x : A) → Same entry x (f x)) → (lo : ℕ) (xs : List A) → Rising (idOf entry) lo xs
       → lookup (idOf entry) i (atFirst (hasId entry i) f xs) ≡ after f (lookup (idOf entry) i xs)
   lookup-first-same i f s lo [] r = refl
   lookup-first-same i f s lo (x ∷ xs) r =
@@ -419,7 +413,7 @@ module _ {A : Type 0} (entry : A → Entry) where
       (eq-or-ne (idOf entry x) i)
 
   -- the first with any test: its own id has what its turn leaves, every other id what it had
-  pub lookup-turned : (q : A → Bool) (f : A → Turn A) → ((x : A) → Same x (f x)) → (lo k : ℕ) (xs : List A) (x : A) → Rising (idOf entry) lo xs → firstOf q xs ≡ some x
+  pub lookup-turned : (q : A → Bool) (f : A → Turn A) → ((x : A) → Same entry x (f x)) → (lo k : ℕ) (xs : List A) (x : A) → Rising (idOf entry) lo xs → firstOf q xs ≡ some x
       → lookup (idOf entry) k (atFirst q f xs) ≡ pick (eqb (idOf entry x) k) (stays (f x)) (lookup (idOf entry) k xs)
   lookup-turned q f s lo k [] x r e = let z : _≡_ {A = ℕ} 0 1 = cc in absurd (omega arith)
   lookup-turned q f s lo k (y ∷ ys) x r e = go (q y) e (lookup-turned q f s (suc (idOf entry y)) k ys x (r .1))

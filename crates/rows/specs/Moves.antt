@@ -2,6 +2,7 @@
 -- enters under its id (insertBy, in Lists), or all go ([]). A turn says what becomes of one record; the move says what becomes of the table and, with
 -- the id and the handles of the record in it, what is told.
 use Prim.Native.Nat.{ℕ, suc, _+_}
+use mathlib.Core.Path.{_≡_}
 use mathlib.Core.Bool.{Bool, true, false}
 use mathlib.Core.List.{List, [], _∷_, _++_}
 use mathlib.Core.Option.{Option, none, some, Option·map}
@@ -96,6 +97,12 @@ module _ {A : Type 0} (entry : A → Entry) where
 
   abbrev pub hasId : ℕ → A → Bool
   hasId i x = eqb (idOf x) i
+
+-- what a rule owes: the record that stays has the entry that it had
+abbrev pub Same : {A : Type 0} → (A → Entry) → A → Turn A → Type 0
+Same entry x (Keeps y) = entry y ≡ entry x
+Same entry x (HandsOff y) = entry y ≡ entry x
+Same entry x (Settles again v h) = Unit {0}
 
 -- the sends that the actions settle
 abbrev pub settledOf : List Action → List Entry

@@ -15,7 +15,8 @@ use Rattle.records.specs.declared.Entry.{Entry}
 use Rattle.records.proofs.Cases.{either, never}
 use Rattle.rows.specs.Lists.{All, Rising, lookup}
 use Rattle.rows.specs.Moves.{Turn, each, atFirst, firstOf, anyOf, count, eachTold, atFirstTold, hasId, settledOf}
-use Rattle.rows.proofs.Promises.{Same, entries, each-count, first-count, first-oldest}
+use Rattle.rows.specs.Moves.{Same}
+use Rattle.rows.proofs.Promises.{entries, each-count, first-count, first-oldest}
 use Rattle.unrouted.specs.Types.{Unrouted, Destination, Which, Retry, NotHeld, Declined, Granted}
 use Rattle.unrouted.specs.Rules.{chosen, sweepTurn, cancelTurn, goesTo, isHeld, noRoom, retryBy, retryOf}
 
