@@ -16,7 +16,7 @@ ghost use Prim.Native.Nat.{_+_, _*_, _-_, _≤_, _<_};
 ghost use mathlib.Core.List.{List, [], _∷_};
 ghost use lib.ListN.{getD};
 ghost use Rattle.records.specs.Limits.{lastTime};
-ghost use Rattle.records.specs.Records.{unroutedId, unroutedEntry, blankUnrouted, destinationAddress};
+ghost use Rattle.records.specs.Records.{unroutedId, unroutedEntry, blankUnrouted, blankDestination, destinationAddress};
 ghost use Rattle.records.specs.declared.Opt16.the-variants.{None16};
 ghost use Rattle.records.specs.declared.Verdict.the-variants.{Failure};
 ghost use Rattle.rows.specs.Lists.{insertBy, placeAt};
@@ -269,6 +269,15 @@ pub fn is_held(d: &[u64; 32], k: usize, destination: u16) -> bool
         Place::Here(_) => true,
         Place::Nowhere => false,
     }
+}
+
+// The held destination at a place; they rise from place to place.
+pub fn destination_at(d: &[u64; 32], i: usize) -> u16
+    requires { ⌜ i < 16 ⌝ }
+    ensures { λ r. ⌜ r ≡ getD (rowsOf destinationTable (now (d .entry))) i blankDestination .address ⌝ }
+{
+    let h = tables::destinations::load(d, i);
+    h.address
 }
 
 // The send enters under its id, where a place is free.
