@@ -6,7 +6,7 @@ use std::process::{Command, Output};
 use std::{env, fs};
 
 const DEFAULT: &str = "../../shared/docs/src";
-const OWN: [&str; 7] = ["attributes", "given", "run", "tool", "Cargo.toml", "Cargo.lock", "SOURCES.sha256"];
+const OWN: [&str; 8] = ["attributes", "calls", "given", "run", "tool", "Cargo.toml", "Cargo.lock", "SOURCES.sha256"];
 
 /// One replacement: in a file, on a line where one is named, of a text that stands there exactly once.
 struct Edit {
