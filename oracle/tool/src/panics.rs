@@ -32,10 +32,15 @@ fn unicast(tables: &mut Tables) {
     let _ = tables.enqueue_unicast(unicast, NOW, &Tunables::default());
 }
 
-/// A repeating broadcast without copies, ticked when it is due (refusal 3 of its enqueue).
-fn no_copies(tables: &mut Tables) {
+/// Repeating broadcasts without copies, ticked when they are due (refusal 3 of their enqueue).
+fn no_passive_copies(tables: &mut Tables) {
     let key = (Nwk(0), 0);
     broadcast(tables, Schedule::PassiveAck { key, copies_remaining: 0, next_attempt: NOW });
+    let _ = tables.tick(NOW);
+}
+
+fn no_fixed_copies(tables: &mut Tables) {
+    broadcast(tables, Schedule::FixedInterval { interval: Default::default(), copies_remaining: 0, next_attempt: NOW });
     let _ = tables.tick(NOW);
 }
 
@@ -63,8 +68,9 @@ fn broadcast_abandoned(tables: &mut Tables) {
 
 /// Every call above panics.
 pub fn all() -> Result<String, String> {
-    let calls: [(&str, Call); 4] = [
-        ("a broadcast without copies, ticked", no_copies),
+    let calls: [(&str, Call); 5] = [
+        ("a passive broadcast without copies, ticked", no_passive_copies),
+        ("a fixed-interval broadcast without copies, ticked", no_fixed_copies),
         ("a retry of what is not held", not_held),
         ("a report on an abandoned unicast", unicast_abandoned),
         ("a report on an abandoned broadcast", broadcast_abandoned),
