@@ -24,23 +24,104 @@ fn least(mut turn: impl FnMut()) -> f64 {
 fn main() {
     use std::hint::black_box as shown;
     println!("| Call, eight live sends | proved, ns | Rust, ns | ratio |\n|---|---:|---:|---:|");
-    let row = |name: &str, ours: f64, theirs: f64| println!("| {name} | {ours:.1} | {theirs:.1} | {:.2} |", ours / theirs);
+    let row =
+        |name: &str, ours: f64, theirs: f64| println!("| {name} | {ours:.1} | {theirs:.1} | {:.2} |", ours / theirs);
 
     let (mut a, mut b) = (ours::Unicasts::eight(), theirs::Tables::unicasts());
-    row("unicasts: poll, miss", least(|| { shown(a.poll(99)); }), least(|| { shown(b.poll(99)); }));
-    row("unicasts: ack, miss", least(|| { shown(a.ack(7)); }), least(|| { shown(b.ack(7)); }));
-    row("unicasts: best queued, none", least(|| { shown(a.best()); }), least(|| { shown(b.dequeue()); }));
-    row("unicasts: idle tick", least(|| { shown(a.tick()); }), least(|| { shown(b.tick()); }));
-    row("unicasts: enqueue and cancel", least(|| { shown(a.enqueue_cancel()); }), least(|| { shown(b.unicast_cancel()); }));
+    row(
+        "unicasts: poll, miss",
+        least(|| {
+            shown(a.poll(99));
+        }),
+        least(|| {
+            shown(b.poll(99));
+        }),
+    );
+    row(
+        "unicasts: ack, miss",
+        least(|| {
+            shown(a.ack(7));
+        }),
+        least(|| {
+            shown(b.ack(7));
+        }),
+    );
+    row(
+        "unicasts: best queued, none",
+        least(|| {
+            shown(a.best());
+        }),
+        least(|| {
+            shown(b.dequeue());
+        }),
+    );
+    row(
+        "unicasts: idle tick",
+        least(|| {
+            shown(a.tick());
+        }),
+        least(|| {
+            shown(b.tick());
+        }),
+    );
+    row(
+        "unicasts: enqueue and cancel",
+        least(|| {
+            shown(a.enqueue_cancel());
+        }),
+        least(|| {
+            shown(b.unicast_cancel());
+        }),
+    );
 
     let (mut a, mut b) = (ours::Unrouted::eight(), theirs::Tables::unrouted());
-    row("unrouted: idle tick", least(|| { shown(a.tick()); }), least(|| { shown(b.tick()); }));
-    row("unrouted: enqueue and cancel", least(|| { shown(a.enqueue_cancel()); }), least(|| { shown(b.unrouted_cancel()); }));
+    row(
+        "unrouted: idle tick",
+        least(|| {
+            shown(a.tick());
+        }),
+        least(|| {
+            shown(b.tick());
+        }),
+    );
+    row(
+        "unrouted: enqueue and cancel",
+        least(|| {
+            shown(a.enqueue_cancel());
+        }),
+        least(|| {
+            shown(b.unrouted_cancel());
+        }),
+    );
 
     let (mut a, mut b) = (ours::Broadcasts::eight(), theirs::Tables::broadcasts());
-    row("broadcasts: delivered, miss", least(|| { shown(a.delivered(99)); }), least(|| { shown(b.delivered(99)); }));
-    row("broadcasts: idle tick", least(|| { shown(a.tick()); }), least(|| { shown(b.tick()); }));
-    row("broadcasts: enqueue and cancel", least(|| { shown(a.enqueue_cancel()); }), least(|| { shown(b.broadcast_cancel()); }));
+    row(
+        "broadcasts: delivered, miss",
+        least(|| {
+            shown(a.delivered(99));
+        }),
+        least(|| {
+            shown(b.delivered(99));
+        }),
+    );
+    row(
+        "broadcasts: idle tick",
+        least(|| {
+            shown(a.tick());
+        }),
+        least(|| {
+            shown(b.tick());
+        }),
+    );
+    row(
+        "broadcasts: enqueue and cancel",
+        least(|| {
+            shown(a.enqueue_cancel());
+        }),
+        least(|| {
+            shown(b.broadcast_cancel());
+        }),
+    );
 }
 
 #[cfg(not(archive))]

@@ -7,7 +7,15 @@ unsafe extern "C" {
     fn unicast_ack(w: *mut [u64; 320], n: usize, told: *mut [u64; 560], src: u16) -> usize;
     fn unicast_best(w: *const [u64; 320], n: usize, clock: u64) -> u32;
     fn unicast_tick(w: *mut [u64; 320], n: usize, told: *mut [u64; 560], clock: u64) -> usize;
-    fn unrouted_enqueue(w: *mut [u64; 112], n: usize, d: *mut [u64; 32], k: usize, id: u32, destination: u16, clock: u64) -> usize;
+    fn unrouted_enqueue(
+        w: *mut [u64; 112],
+        n: usize,
+        d: *mut [u64; 32],
+        k: usize,
+        id: u32,
+        destination: u16,
+        clock: u64,
+    ) -> usize;
     fn unrouted_cancel(w: *mut [u64; 112], n: usize, told: *mut [u64; 560], id: u32) -> usize;
     fn unrouted_tick(w: *mut [u64; 112], n: usize, told: *mut [u64; 560], clock: u64) -> usize;
     fn broadcast_enqueue(w: *mut [u64; 112], n: usize, id: u32, src: u16, clock: u64) -> usize;
@@ -85,7 +93,9 @@ impl Unrouted {
     }
 
     fn enqueue(&mut self) {
-        self.count = unsafe { unrouted_enqueue(&mut self.words, self.count, &mut self.held, self.destinations, self.next, 5, 0) };
+        self.count = unsafe {
+            unrouted_enqueue(&mut self.words, self.count, &mut self.held, self.destinations, self.next, 5, 0)
+        };
         self.next += 1;
     }
 

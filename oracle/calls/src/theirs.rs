@@ -1,7 +1,9 @@
 //! The same calls of the Rust at the commit, on its own tables, with plain numbers for frame and waiter.
 
 use given::constants::Tunables;
-use given::sends::{ApsAckData, Broadcast, Confirm, Schedule, SendFailure, SendId, Sends, TxPriority, Unicast, UnroutedUnicast};
+use given::sends::{
+    ApsAckData, Broadcast, Confirm, Schedule, SendFailure, SendId, Sends, TxPriority, Unicast, UnroutedUnicast,
+};
 use given::types::{Eui64, Nwk};
 use given::{Ieee802154Address, Instant};
 
@@ -73,15 +75,31 @@ impl Tables {
     fn unrouted_send(&mut self) -> SendId {
         let id = self.next;
         self.next += 1;
-        let send = UnroutedUnicast { frame: id, priority: TxPriority::UserNormal, waiter: id, confirm: Confirm::OnHandoff, destination: Nwk(5) };
+        let send = UnroutedUnicast {
+            frame: id,
+            priority: TxPriority::UserNormal,
+            waiter: id,
+            confirm: Confirm::OnHandoff,
+            destination: Nwk(5),
+        };
         self.sends.enqueue_unrouted_unicast(send, ZERO, &self.tunables).0
     }
 
     fn broadcast(&mut self) -> SendId {
         let id = self.next;
         self.next += 1;
-        let schedule = Schedule::PassiveAck { key: (Nwk((id % 8) as u16), 1), copies_remaining: 3, next_attempt: Instant::from_micros(5000) };
-        self.sends.enqueue_broadcast(Broadcast { frame: id, priority: TxPriority::UserNormal, waiter: id, schedule }, ZERO, &self.tunables).0
+        let schedule = Schedule::PassiveAck {
+            key: (Nwk((id % 8) as u16), 1),
+            copies_remaining: 3,
+            next_attempt: Instant::from_micros(5000),
+        };
+        self.sends
+            .enqueue_broadcast(
+                Broadcast { frame: id, priority: TxPriority::UserNormal, waiter: id, schedule },
+                ZERO,
+                &self.tunables,
+            )
+            .0
     }
 
     pub fn poll(&mut self, address: u64) -> bool {
@@ -89,7 +107,14 @@ impl Tables {
     }
 
     pub fn ack(&mut self, src: u16) -> usize {
-        let key = ApsAckData { src: Nwk(src), destination_endpoint: None, cluster_id: None, profile_id: None, source_endpoint: None, counter: 1 };
+        let key = ApsAckData {
+            src: Nwk(src),
+            destination_endpoint: None,
+            cluster_id: None,
+            profile_id: None,
+            source_endpoint: None,
+            counter: 1,
+        };
         self.sends.aps_ack_received(&key).into_iter().count()
     }
 
