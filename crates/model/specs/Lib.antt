@@ -1,0 +1,5 @@
+pub mod Types
+pub mod Model
+pub mod Calls
+pub mod Steps
+pub mod Sound
