@@ -1,0 +1,4 @@
+pub mod Kepts
+pub mod Holds
+pub mod Routes
+pub mod Sounds

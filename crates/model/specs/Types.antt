@@ -47,3 +47,5 @@ pub use Rattle.model.specs.declared.Counts.{Counts}
 pub use Rattle.model.specs.declared.Did.{Did}
 pub use Rattle.model.specs.declared.Sends.{Sends}
 pub use Rattle.model.specs.declared.Answered.{Answered}
+pub use Rattle.model.specs.declared.Abandoned.{Abandoned}
+pub use Rattle.model.specs.declared.Emptied.{Emptied}

@@ -91,3 +91,15 @@ pub struct Answered {
     pub answer: Answer,
     pub told: usize,
 }
+
+// What an abandon of lent tables gives back: the counts after it, and how many sends it listed.
+pub struct Abandoned {
+    pub counts: Counts,
+    pub listed: usize,
+}
+
+// What an abandon of tables by value gives back.
+pub struct Emptied {
+    pub sends: Sends,
+    pub listed: usize,
+}
