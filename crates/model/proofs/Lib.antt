@@ -1,3 +1,4 @@
+pub mod Fews
 pub mod Kepts
 pub mod Holds
 pub mod Routes
