@@ -3,3 +3,9 @@ pub mod Kepts
 pub mod Holds
 pub mod Routes
 pub mod Sounds
+pub mod Looks
+pub mod Refusals
+pub mod Bounds
+pub mod Dequeues
+pub mod Wakings
+pub mod Routings

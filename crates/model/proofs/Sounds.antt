@@ -2,7 +2,7 @@
 use Prim.Native.Nat.{ℕ, suc, _+_, _-_, _≤_, _<_}
 use native.Mathlib.Omega.{arith}
 use mathlib.Core.Path.{_≡_, refl, ap, _∙_}
-use mathlib.Core.Bool.{Bool, true, false, not, _&&_, _||_}
+use mathlib.Core.Bool.{Bool, true, false, not, _||_}
 use mathlib.Core.List.{List, [], _∷_}
 use mathlib.Core.Logic.{⊎-elim}
 use mathlib.Core.Option.{Option, none, some}
@@ -29,7 +29,7 @@ use Rattle.unrouted.specs.Rules as unr
 use Rattle.unrouted.proofs.Exact.{sweep-same}
 use Rattle.model.specs.Types.{Opt16, Opt32, None32, Some32, Opt64, AckKey, QuorumKey, Unicast, Unrouted, Destination, Broadcast, Settings, TxResult, Refusal, Best, NoneReady, Ready, NoBest, BestIs, Lapsed, Bound, Retry, NotHeld, Declined, Granted, NewUnicast, NewUnrouted, NewBroadcast, Resolved, Lender, FromUnicasts, FromBroadcasts}
 use Rattle.model.specs.Model.{Model, Effect, freshOf, withUnicasts, withUnrouted, withBroadcasts}
-use Rattle.model.specs.Calls.{late, unless, only, reached, lapsed, routing, routeOf, admitting, drawn, newUnicast, enqueueOf, enqueueUnicastOf, enqueueCopyOf, newUnrouted, enqueueUnroutedOf, attemptLate, newBroadcast, enqueueBroadcastOf, lendUnicast, lendBroadcast, unicastFirst, lendBest, dequeueOf, reportIn, transmittedOf, pollOf, ackOf, dropOf, deliveredOf, retryBy, retryOf, failOf, castBar, cancelOf, tickOf, emptied}
+use Rattle.model.specs.Calls.{late, unless, only, reached, matched, lapsed, routing, routeOf, admitting, drawn, newUnicast, enqueueOf, enqueueUnicastOf, enqueueCopyOf, newUnrouted, enqueueUnroutedOf, attemptLate, newBroadcast, enqueueBroadcastOf, lendUnicast, lendBroadcast, unicastFirst, lendBest, dequeueOf, reportIn, transmittedOf, pollOf, ackOf, dropOf, deliveredOf, retryBy, retryOf, failOf, castBar, cancelOf, tickOf, emptied}
 use Rattle.model.specs.Steps.{Call, stepOf, after}
 use Rattle.model.specs.Steps.Call.{EnqueueUnicast, EnqueueCopy, EnqueueUnrouted, EnqueueBroadcast, Dequeue, Transmitted, Poll, AckReceived, RetryDiscovery, FailUnrouted, RouteUnicasts, Delivered, DropIndirect, Cancel, Tick, Abandon, NextWake, Destinations, AwaitingQuorum, PollAddresses, HasUnrouted, HasAwaiting}
 use Rattle.model.specs.Sound.{Kept, liveWith, SoundModel}
@@ -297,7 +297,7 @@ module _ {m : Model} (s : SoundModel m) where
   route-sound set d now n rs =
       let free : ℕ = unicastRoom - length (m .unicasts) in
       either Good (late now) s
-      (either Good (eqb n (count (unr.leftTo now d) (m .unrouted)) && leb n (length rs))
+      (either Good (matched m d now n rs)
       (either-by Good (ltb free (count reached (take n rs))) (λ e. s)
       (λ e. routing-sound set d now (take n rs) (ltb-false free (count reached (take n rs)) e)))
       s)

@@ -209,11 +209,15 @@ routing m s d now rs =
     })
     (eachTold unroutedEntry (unr.sweepTurn (Lapsed now)) (m .unrouted) ++ failing (only (unr.goesTo d) (lapsed m now)) rs)
 
--- 1; then 10 where the first n results are not as many as the sends left after the tick; then 4 where fewer unicast places are free than results succeed
+-- the first n results are there, and as many as the sends left to route after the tick
+abbrev pub matched : Model → ℕ → ℕ → ℕ → List Resolved → Bool
+matched m d now n rs = eqb n (count (unr.leftTo now d) (m .unrouted)) && leb n (length rs)
+
+-- 1; then 10 where they are not; then 4 where fewer unicast places are free than results succeed
 abbrev pub routeOf : Model → Settings → ℕ → ℕ → ℕ → List Resolved → Effect
 routeOf m s d now n rs =
     pick (late now) (denied m TimeTooLate)
-    (pick (eqb n (count (unr.leftTo now d) (m .unrouted)) && leb n (length rs))
+    (pick (matched m d now n rs)
     (pick (ltb (unicastRoom - length (m .unicasts)) (count reached (take n rs))) (denied m NoPlace) (routing m s d now (take n rs)))
     (denied m ResultsMismatch))
 

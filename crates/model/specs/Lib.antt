@@ -3,3 +3,4 @@ pub mod Model
 pub mod Calls
 pub mod Steps
 pub mod Sound
+pub mod Claims
