@@ -1,4 +1,4 @@
--- A call by id on one table, refused or done, as the call on all tables; and how many actions a move tells. Assumes nothing.
+-- What bars a cancel, and whether a search found a record. Assumes nothing.
 use Prim.Native.Nat.{ℕ, _+_, _*_, _≤_}
 use native.Mathlib.Omega.{arith}
 use mathlib.Core.Path.{_≡_, refl, sym, ap, subst, _∙_}
@@ -17,13 +17,8 @@ use Rattle.rows.specs.Moves.{Turn, firstOf, anyOf, hasId}
 use Rattle.rows.specs.Moves.Turn.{Keeps}
 use Rattle.rows.proofs.Promises.{here-some, nowhere-none, find-first, first-found, first-missed}
 use Rattle.tables.specs.Layouts.{unicastTable, broadcastTable}
-use Rattle.unicasts.specs.declared.Outcome.{Outcome}
-use Rattle.unicasts.specs.declared.Outcome.the-variants.{Refused, Done}
-use Rattle.unicasts.specs.Calls.{Called}
 use Rattle.unicasts.specs.Rules.{sentCopy}
-use Rattle.broadcasts.specs.declared.Counts as cast-counts
 use Rattle.broadcasts.specs.declared.Outcome as casts
-use Rattle.broadcasts.specs.declared.Outcome.the-variants as cast
 use Rattle.broadcasts.specs.Calls.{Answered}
 use Rattle.broadcasts.specs.Rules.{inRadio, cancelBar}
 use Rattle.model.specs.Model.{Model, Effect, lentModel, SoundTables, Does}
@@ -37,22 +32,6 @@ module _ {c : Counts} {ws vs ds bs : List ℕ} (s : SoundTables c ws vs ds bs) w
   pub does-barred : {o : Option Refusal} {ws′ bs′ buf buf′ : List ℕ} {r : Did} (e : Effect) (x : Refusal) → o ≡ some x → ws′ ≡ ws → bs′ ≡ bs → buf′ ≡ buf → r ≡ deniedBy c x
       → Does (unless (lentModel c ws vs ds bs) o e) buf ws′ vs ds bs′ buf′ r
   does-barred e x p q b t d = rw (p, q, b, t) (does-deny s x d)
-
-  module _ {bar : Option Unicast → Option Refusal} {f : Unicast → Turn Unicast} {id : ℕ} {buf ws′ buf′ : List ℕ} {o : Outcome}
-      (h : Called bar f id ws (c .unicasts) buf 0 ws′ buf′ o) where
-    pub unicast-barred : {r : Did} (x : Refusal) → o ≡ Refused x → r ≡ deniedBy c x
-        → Does (unless (lentModel c ws vs ds bs) (bar (firstOf (hasId unicastEntry id) (live unicastTable ws (c .unicasts)))) (turnUnicast (lentModel c ws vs ds bs) (hasId unicastEntry id) f))
-        buf ws′ vs ds bs buf′ r
-    unicast-barred x e d =
-        let g : Called bar f id ws (c .unicasts) buf 0 ws′ buf′ (Refused x) = subst (λ (y : Outcome). Called bar f id ws (c .unicasts) buf 0 ws′ buf′ y) e h in
-        does-barred _ x (sym (g .answer)) (g .tables .0) refl (g .tables .1) d
-
-    pub unicast-done : {n m : ℕ} {k : Counts} → o ≡ Done n m → k ≡ withUnicastCount c n
-        → Does (unless (lentModel c ws vs ds bs) (bar (firstOf (hasId unicastEntry id) (live unicastTable ws (c .unicasts)))) (turnUnicast (lentModel c ws vs ds bs) (hasId unicastEntry id) f))
-        buf ws′ vs ds bs buf′ (record { counts = k; answer = Accepted; told = m })
-    unicast-done {n} {m} {k} e d =
-        let g : Called bar f id ws (c .unicasts) buf 0 ws′ buf′ (Done n m) = subst (λ (y : Outcome). Called bar f id ws (c .unicasts) buf 0 ws′ buf′ y) e h in
-        rw (← g .answer) (done-unicasts s d (g .tables .table) (g .tables .tells))
 
 -- what a call on a broadcast ensures, once its answer is known
 module _ {bar : Option Broadcast → Option Refusal} {f : Broadcast → Turn Broadcast} {id : ℕ} {bs buf bs′ buf′ : List ℕ} {n m : ℕ} {o : casts.Outcome}

@@ -1,2 +1,4 @@
 pub mod Doings
 pub mod Barrings
+pub mod Ones
+pub mod Enters

@@ -10,6 +10,8 @@ ghost use Rattle.calls.specs.Parts.{deniedBy, quietly, withUnicastCount,
 
 pub mod devices;
 pub mod ends;
+pub mod enqueues;
+pub mod radio;
 
 // A time past 2^62 is not taken.
 pub(crate) fn too_late(clock: u64) -> bool

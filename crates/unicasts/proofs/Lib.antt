@@ -4,3 +4,4 @@ pub mod Bars
 pub mod Claims
 pub mod Members
 pub mod Bells
+pub mod Ones

@@ -1,3 +1,4 @@
 pub mod Turns
 pub mod Lists
 pub mod Exact
+pub mod Ones

@@ -1,4 +1,4 @@
-use Rattle.calls.proofs.Barrings.{unicast-barred, unicast-done}
+use Rattle.calls.proofs.Enters.{refused-unicast, turned-unicast}
 use borrow.Author.Needs.{needs}
 use Rattle.calls.proofs.ends.cancel_unicast.Statement.{statement}
 use Rattle.calls.proofs.ends.cancel_unicast.Tie as tie
@@ -24,10 +24,10 @@ with-unicasts-requires : tie.Need-with-unicasts-requires
 with-unicasts-requires c κs = search needs
 
 returns : tie.Need-returns
-returns c = unicast-barred (c .before .before .before .before .before .before .before .pre) (c .before .before .before .before .cancel .ensures) _ (c .before .before .e .given .1) (c .denied .ensures)
+returns c = refused-unicast (c .before .before .before .before .before .before .before .pre) (c .before .before .before .before .cancel .ensures) (c .before .before .e .given .1) (c .denied .ensures)
 
 returns-2 : tie.Need-returns-2
-returns-2 c = unicast-done (c .before .before .before .before .before .before .before .pre) (c .before .before .before .before .cancel .ensures) (c .before .before .n .given .1) (c .with-unicasts .ensures)
+returns-2 c = turned-unicast (c .before .before .before .before .before .before .before .pre) (c .before .before .before .before .cancel .ensures) (c .before .before .n .given .1) (c .with-unicasts .ensures)
 
 pub cancel-unicast-spec : {M : Type 1} → statement M
 cancel-unicast-spec =

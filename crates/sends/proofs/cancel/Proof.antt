@@ -1,0 +1,20 @@
+use Rattle.model.proofs.Sounds.{cancel-sound}
+use Rattle.sends.proofs.Values.{is-answered, leaves-sound}
+use borrow.Author.Needs.{needs}
+use Rattle.sends.proofs.cancel.Statement.{statement}
+use Rattle.sends.proofs.cancel.Tie as tie
+use Rattle.sends.proofs.cancel.Reads as reads
+use Rattle.sends.proofs.cancel.Lts as lts
+use Rattle.calls.proofs.ends.cancel.Reads as cancel-reads
+
+cancel-requires : tie.Need-cancel-requires
+cancel-requires c κs = search needs
+
+returns : tie.Need-returns
+returns c =
+    let s = c .before .before .before .before .before .before .before .before .before .before .before .before in
+    let h = c .before .cancel .ensures in
+    (is-answered h, leaves-sound h (cancel-sound (s .pre .model) (s .args .id)))
+
+pub cancel-spec : {M : Type 1} → statement M
+cancel-spec = tie.close (tie.spec cancel-requires returns)

@@ -1,0 +1,20 @@
+use Rattle.model.proofs.Sounds.{poll-sound}
+use Rattle.sends.proofs.Values.{is-answered, leaves-sound}
+use borrow.Author.Needs.{needs}
+use Rattle.sends.proofs.poll.Statement.{statement}
+use Rattle.sends.proofs.poll.Tie as tie
+use Rattle.sends.proofs.poll.Reads as reads
+use Rattle.sends.proofs.poll.Lts as lts
+use Rattle.calls.proofs.devices.poll.Reads as poll-reads
+
+poll-requires : tie.Need-poll-requires
+poll-requires c κs = search needs
+
+returns : tie.Need-returns
+returns c =
+    let s = c .before .before .before .before .before .before .before .before .before .before .before .before in
+    let h = c .before .poll .ensures in
+    (is-answered h, leaves-sound h (poll-sound (s .pre .model) (s .args .eui) (s .args .nwk) (s .args .clock)))
+
+pub poll-spec : {M : Type 1} → statement M
+poll-spec = tie.close (tie.spec poll-requires returns)
