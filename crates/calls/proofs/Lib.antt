@@ -1,4 +1,7 @@
 pub mod Doings
 pub mod Barrings
-pub mod Ones
 pub mod Enters
+pub mod Ones
+pub mod Routings
+pub mod Listings
+pub mod Fillings

@@ -1,2 +1,4 @@
 pub mod Types
 pub mod Parts
+pub mod Routes
+pub mod Fills

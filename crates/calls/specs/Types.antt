@@ -49,3 +49,7 @@ pub use Rattle.model.specs.declared.Sends.{Sends}
 pub use Rattle.model.specs.declared.Answered.{Answered}
 pub use Rattle.model.specs.declared.Abandoned.{Abandoned}
 pub use Rattle.model.specs.declared.Emptied.{Emptied}
+pub use Rattle.calls.specs.declared.routes.Entered.{Entered}
+pub use Rattle.calls.specs.declared.routes.Gone.{Gone}
+pub use Rattle.calls.specs.declared.lists.Matched.{Matched}
+pub use Rattle.calls.specs.declared.lists.Matched.the-variants.{MapBarred, Members}

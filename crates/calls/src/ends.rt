@@ -1,4 +1,5 @@
 // Cancel, the timer pass, and when it must next run; abandon.
+use model::Abandoned;
 use model::Answer;
 use model::Counts;
 use model::Did;
@@ -13,7 +14,7 @@ ghost use Rattle.rows.specs.Moves.{firstOf, hasId};
 ghost use Rattle.rows.specs.Lists.{lookup};
 ghost use Rattle.model.specs.Model.{lentModel, SoundTables, Does};
 ghost use Rattle.model.specs.Calls.{soonest, wakeOf, cancelOf, cancelUnrouted, tickOf, ticked};
-ghost use Rattle.calls.specs.Parts.{cancelIn, cancelCast};
+ghost use Rattle.calls.specs.Parts.{cancelIn, cancelCast, AbandonedAll};
 
 // A unicast is cancelled, a broadcast's copy too: alone.
 fn cancel_unicast(
@@ -175,4 +176,34 @@ pub fn next_wake(c: Counts, w: &[u64; 320], v: &[u64; 112], d: &[u64; 32], b: &[
     let y = unrouted::next_wake(v, c.unrouted);
     let z = broadcasts::asks::next_wake(b, c.broadcasts);
     soonest_of(x, soonest_of(y, z))
+}
+
+// Every table is emptied, and each live send is listed with its waiter: two words, from the list's start on. The next id stays.
+pub fn abandon(
+    c: Counts,
+    w: &mut [u64; 320],
+    v: &mut [u64; 112],
+    d: &mut [u64; 32],
+    b: &mut [u64; 112],
+    list: &mut [u64; 128],
+) -> Abandoned
+    requires { ⌜ SoundTables c (now w) (now v) (now d) (now b) ⌝ }
+    ensures { λ r. ⌜ AbandonedAll (lentModel c (now (w .entry)) (now (v .entry)) (now (d .entry)) (now (b .entry))) (now (list .entry)) (now (w .exit)) (now (v .exit)) (now (d .exit)) (now (b .exit)) (now (list .exit)) r ⌝ }
+{
+    let x = crate::lists::list_unicasts(w, c.unicasts, list, 0);
+    let y = crate::lists::list_unrouted(v, c.unrouted, list, x);
+    let z = crate::lists::list_broadcasts(b, c.broadcasts, list, y);
+    unicasts::calls::abandon(w);
+    unrouted::abandon(v, d);
+    broadcasts::moves::abandon(b);
+    Abandoned {
+        counts: Counts {
+            next_id: c.next_id,
+            unicasts: 0,
+            unrouted: 0,
+            held: 0,
+            broadcasts: 0,
+        },
+        listed: z,
+    }
 }

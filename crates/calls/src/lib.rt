@@ -11,7 +11,9 @@ ghost use Rattle.calls.specs.Parts.{deniedBy, quietly, withUnicastCount,
 pub mod devices;
 pub mod ends;
 pub mod enqueues;
+pub mod lists;
 pub mod radio;
+pub mod routes;
 
 // A time past 2^62 is not taken.
 pub(crate) fn too_late(clock: u64) -> bool
