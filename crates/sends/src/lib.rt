@@ -1,15 +1,274 @@
 // The calls over the send tables by value: each takes the tables and gives them back with its answer, its actions told into a lent
 // buffer. No logic: each lends its tables to the call of `calls` with its name.
 use model::Answered;
+use model::Lender;
+use model::NewBroadcast;
+use model::NewUnicast;
+use model::NewUnrouted;
+use model::Resolved;
 use model::Sends;
 use records::AckKey;
 use records::Opt16;
 use records::Opt64;
 use records::QuorumKey;
+use records::Settings;
+use records::TxResult;
 ghost use mathlib.Core.Path.{_≡_};
 ghost use Rattle.model.specs.Model.{modelOf, answeredOf};
-ghost use Rattle.model.specs.Calls.{pollOf, ackOf, deliveredOf, dropOf, cancelOf, tickOf};
+ghost use Rattle.model.specs.Calls.{enqueueUnicastOf, enqueueCopyOf, enqueueUnroutedOf, enqueueBroadcastOf, dequeueOf, transmittedOf, pollOf, ackOf, retryOf, failOf, routeOf, deliveredOf, dropOf, cancelOf, tickOf};
 ghost use Rattle.model.specs.Sound.{Sound, Leaving};
+
+// A unicast with a known next hop: refused with 1, 2 or 4, or its id is issued.
+pub fn enqueue_unicast(
+    s: Sends,
+    told: &mut [u64; 560],
+    settings: Settings,
+    u: NewUnicast,
+    clock: u64,
+) -> Answered
+    requires { ⌜ Sound s ⌝ }
+    ensures { λ r. ⌜ r ≡ answeredOf (enqueueUnicastOf (modelOf s) settings u clock) ⌝ }
+    ensures { λ r. ⌜ Leaving (enqueueUnicastOf (modelOf s) settings u clock) (now (told .entry)) (now (told .exit)) r ⌝ }
+{
+    let c = s.counts;
+    let mut w = s.unicasts;
+    let mut v = s.unrouted;
+    let mut d = s.held;
+    let mut b = s.broadcasts;
+    let x = calls::enqueues::enqueue_unicast(
+        c,
+        &mut w,
+        &mut v,
+        &mut d,
+        &mut b,
+        told,
+        settings,
+        u,
+        clock,
+    );
+    let n = x.counts;
+    let a = x.answer;
+    Answered {
+        sends: Sends {
+            counts: n,
+            unicasts: w,
+            unrouted: v,
+            held: d,
+            broadcasts: b,
+        },
+        answer: a,
+        told: x.told,
+    }
+}
+
+// A broadcast's copy for one sleepy child; it may name any id.
+pub fn enqueue_broadcast_copy(
+    s: Sends,
+    told: &mut [u64; 560],
+    settings: Settings,
+    broadcast: u32,
+    u: NewUnicast,
+    clock: u64,
+) -> Answered
+    requires { ⌜ Sound s ⌝ }
+    ensures { λ r. ⌜ r ≡ answeredOf (enqueueCopyOf (modelOf s) settings broadcast u clock) ⌝ }
+    ensures { λ r. ⌜ Leaving (enqueueCopyOf (modelOf s) settings broadcast u clock) (now (told .entry)) (now (told .exit)) r ⌝ }
+{
+    let c = s.counts;
+    let mut w = s.unicasts;
+    let mut v = s.unrouted;
+    let mut d = s.held;
+    let mut b = s.broadcasts;
+    let x = calls::enqueues::enqueue_broadcast_copy(
+        c,
+        &mut w,
+        &mut v,
+        &mut d,
+        &mut b,
+        told,
+        settings,
+        broadcast,
+        u,
+        clock,
+    );
+    let n = x.counts;
+    let a = x.answer;
+    Answered {
+        sends: Sends {
+            counts: n,
+            unicasts: w,
+            unrouted: v,
+            held: d,
+            broadcasts: b,
+        },
+        answer: a,
+        told: x.told,
+    }
+}
+
+// A unicast with no route yet, held until its destination's discovery ends. The caller starts that discovery if the destination
+// was not held.
+pub fn enqueue_unrouted_unicast(
+    s: Sends,
+    told: &mut [u64; 560],
+    settings: Settings,
+    u: NewUnrouted,
+    clock: u64,
+) -> Answered
+    requires { ⌜ Sound s ⌝ }
+    ensures { λ r. ⌜ r ≡ answeredOf (enqueueUnroutedOf (modelOf s) settings u clock) ⌝ }
+    ensures { λ r. ⌜ Leaving (enqueueUnroutedOf (modelOf s) settings u clock) (now (told .entry)) (now (told .exit)) r ⌝ }
+{
+    let c = s.counts;
+    let mut w = s.unicasts;
+    let mut v = s.unrouted;
+    let mut d = s.held;
+    let mut b = s.broadcasts;
+    let x = calls::enqueues::enqueue_unrouted_unicast(
+        c,
+        &mut w,
+        &mut v,
+        &mut d,
+        &mut b,
+        told,
+        settings,
+        u,
+        clock,
+    );
+    let n = x.counts;
+    let a = x.answer;
+    Answered {
+        sends: Sends {
+            counts: n,
+            unicasts: w,
+            unrouted: v,
+            held: d,
+            broadcasts: b,
+        },
+        answer: a,
+        told: x.told,
+    }
+}
+
+// A broadcast, sent once or repeated on its schedule: refused with 1, 3, 2 or 4, or its id is issued.
+pub fn enqueue_broadcast(
+    s: Sends,
+    told: &mut [u64; 560],
+    settings: Settings,
+    u: NewBroadcast,
+    clock: u64,
+) -> Answered
+    requires { ⌜ Sound s ⌝ }
+    ensures { λ r. ⌜ r ≡ answeredOf (enqueueBroadcastOf (modelOf s) settings u clock) ⌝ }
+    ensures { λ r. ⌜ Leaving (enqueueBroadcastOf (modelOf s) settings u clock) (now (told .entry)) (now (told .exit)) r ⌝ }
+{
+    let c = s.counts;
+    let mut w = s.unicasts;
+    let mut v = s.unrouted;
+    let mut d = s.held;
+    let mut b = s.broadcasts;
+    let x = calls::enqueues::enqueue_broadcast(
+        c,
+        &mut w,
+        &mut v,
+        &mut d,
+        &mut b,
+        told,
+        settings,
+        u,
+        clock,
+    );
+    let n = x.counts;
+    let a = x.answer;
+    Answered {
+        sends: Sends {
+            counts: n,
+            unicasts: w,
+            unrouted: v,
+            held: d,
+            broadcasts: b,
+        },
+        answer: a,
+        told: x.told,
+    }
+}
+
+// Lends the unexpired queued send of highest priority, and of these the oldest, to the radio; `transmitted` must report on it.
+pub fn dequeue(s: Sends, told: &mut [u64; 560], clock: u64) -> Answered
+    requires { ⌜ Sound s ⌝ }
+    ensures { λ r. ⌜ r ≡ answeredOf (dequeueOf (modelOf s) clock) ⌝ }
+    ensures { λ r. ⌜ Leaving (dequeueOf (modelOf s) clock) (now (told .entry)) (now (told .exit)) r ⌝ }
+{
+    let c = s.counts;
+    let mut w = s.unicasts;
+    let mut v = s.unrouted;
+    let mut d = s.held;
+    let mut b = s.broadcasts;
+    let x = calls::radio::dequeue(c, &mut w, &mut v, &mut d, &mut b, told, clock);
+    let n = x.counts;
+    let a = x.answer;
+    Answered {
+        sends: Sends {
+            counts: n,
+            unicasts: w,
+            unrouted: v,
+            held: d,
+            broadcasts: b,
+        },
+        answer: a,
+        told: x.told,
+    }
+}
+
+// The radio's report on a lent send: refused with 1, 5, 7 or 8. `from` names the table that lent it; `delay` is how long a failed
+// unicast waits for its next attempt, and a passive-ack broadcast for its next copy.
+pub fn transmitted(
+    s: Sends,
+    told: &mut [u64; 560],
+    from: Lender,
+    id: u32,
+    frame: u32,
+    x: TxResult,
+    clock: u64,
+    delay: u32,
+) -> Answered
+    requires { ⌜ Sound s ⌝ }
+    ensures { λ r. ⌜ r ≡ answeredOf (transmittedOf (modelOf s) from id frame x clock delay) ⌝ }
+    ensures { λ r. ⌜ Leaving (transmittedOf (modelOf s) from id frame x clock delay) (now (told .entry)) (now (told .exit)) r ⌝ }
+{
+    let c = s.counts;
+    let mut w = s.unicasts;
+    let mut v = s.unrouted;
+    let mut d = s.held;
+    let mut b = s.broadcasts;
+    let x = calls::radio::transmitted(
+        c,
+        &mut w,
+        &mut v,
+        &mut d,
+        &mut b,
+        told,
+        from,
+        id,
+        frame,
+        x,
+        clock,
+        delay,
+    );
+    let n = x.counts;
+    let a = x.answer;
+    Answered {
+        sends: Sends {
+            counts: n,
+            unicasts: w,
+            unrouted: v,
+            held: d,
+            broadcasts: b,
+        },
+        answer: a,
+        told: x.told,
+    }
+}
 
 // A device polls, under either address: its oldest frame is queued ahead of everything else. Answers whether there was one.
 pub fn poll(s: Sends, told: &mut [u64; 560], eui: Opt64, nwk: Opt16, clock: u64) -> Answered
@@ -50,6 +309,107 @@ pub fn aps_ack_received(s: Sends, told: &mut [u64; 560], key: AckKey) -> Answere
     let mut d = s.held;
     let mut b = s.broadcasts;
     let x = calls::devices::aps_ack_received(c, &mut w, &mut v, &mut d, &mut b, told, key);
+    let n = x.counts;
+    let a = x.answer;
+    Answered {
+        sends: Sends {
+            counts: n,
+            unicasts: w,
+            unrouted: v,
+            held: d,
+            broadcasts: b,
+        },
+        answer: a,
+        told: x.told,
+    }
+}
+
+// A destination's discovery lapsed: answers whether the caller is to start it again. Refused with 9 where it is not held.
+pub fn retry_discovery(s: Sends, told: &mut [u64; 560], destination: u16) -> Answered
+    requires { ⌜ Sound s ⌝ }
+    ensures { λ r. ⌜ r ≡ answeredOf (retryOf (modelOf s) destination) ⌝ }
+    ensures { λ r. ⌜ Leaving (retryOf (modelOf s) destination) (now (told .entry)) (now (told .exit)) r ⌝ }
+{
+    let c = s.counts;
+    let mut w = s.unicasts;
+    let mut v = s.unrouted;
+    let mut d = s.held;
+    let mut b = s.broadcasts;
+    let x = calls::routes::retry_discovery(c, &mut w, &mut v, &mut d, &mut b, told, destination);
+    let n = x.counts;
+    let a = x.answer;
+    Answered {
+        sends: Sends {
+            counts: n,
+            unicasts: w,
+            unrouted: v,
+            held: d,
+            broadcasts: b,
+        },
+        answer: a,
+        told: x.told,
+    }
+}
+
+// A destination's discovery ended without a route: its sends fail.
+pub fn fail_unrouted(s: Sends, told: &mut [u64; 560], destination: u16) -> Answered
+    requires { ⌜ Sound s ⌝ }
+    ensures { λ r. ⌜ r ≡ answeredOf (failOf (modelOf s) destination) ⌝ }
+    ensures { λ r. ⌜ Leaving (failOf (modelOf s) destination) (now (told .entry)) (now (told .exit)) r ⌝ }
+{
+    let c = s.counts;
+    let mut w = s.unicasts;
+    let mut v = s.unrouted;
+    let mut d = s.held;
+    let mut b = s.broadcasts;
+    let x = calls::routes::fail_unrouted(c, &mut w, &mut v, &mut d, &mut b, told, destination);
+    let n = x.counts;
+    let a = x.answer;
+    Answered {
+        sends: Sends {
+            counts: n,
+            unicasts: w,
+            unrouted: v,
+            held: d,
+            broadcasts: b,
+        },
+        answer: a,
+        told: x.told,
+    }
+}
+
+// A route to a destination is known: its sends, in id order, have the first n results. Refused with 1, 10 or 4.
+pub fn route_unicasts(
+    s: Sends,
+    told: &mut [u64; 560],
+    settings: Settings,
+    destination: u16,
+    clock: u64,
+    results: [Resolved; 16],
+    n: usize,
+) -> Answered
+    requires { ⌜ Sound s ⌝ }
+    ensures { λ r. ⌜ r ≡ answeredOf (routeOf (modelOf s) settings destination clock n results) ⌝ }
+    ensures { λ r. ⌜ Leaving (routeOf (modelOf s) settings destination clock n results) (now (told .entry)) (now (told .exit)) r ⌝ }
+{
+    let c = s.counts;
+    let mut w = s.unicasts;
+    let mut v = s.unrouted;
+    let mut d = s.held;
+    let mut b = s.broadcasts;
+    let x = calls::routes::route_unicasts(
+        c,
+        &mut w,
+        &mut v,
+        &mut d,
+        &mut b,
+        told,
+        settings,
+        destination,
+        clock,
+        results,
+        n,
+    );
     let n = x.counts;
     let a = x.answer;
     Answered {

@@ -1,0 +1,20 @@
+use Rattle.model.proofs.Sounds.{dequeue-sound}
+use Rattle.sends.proofs.Values.{is-answered, leaves-sound}
+use borrow.Author.Needs.{needs}
+use Rattle.sends.proofs.dequeue.Statement.{statement}
+use Rattle.sends.proofs.dequeue.Tie as tie
+use Rattle.sends.proofs.dequeue.Reads as reads
+use Rattle.sends.proofs.dequeue.Lts as lts
+use Rattle.calls.proofs.radio.dequeue.Reads as dequeue-reads
+
+dequeue-requires : tie.Need-dequeue-requires
+dequeue-requires c κs = search needs
+
+returns : tie.Need-returns
+returns c =
+    let s = c .before .before .before .before .before .before .before .before .before .before .before .before in
+    let h = c .before .dequeue .ensures in
+    (is-answered h, leaves-sound h (dequeue-sound (s .pre .model) (s .args .clock)))
+
+pub dequeue-spec : {M : Type 1} → statement M
+dequeue-spec = tie.close (tie.spec dequeue-requires returns)

@@ -1,0 +1,20 @@
+use Rattle.model.proofs.Sounds.{enqueue-unrouted-sound}
+use Rattle.sends.proofs.Values.{is-answered, leaves-sound}
+use borrow.Author.Needs.{needs}
+use Rattle.sends.proofs.enqueue_unrouted_unicast.Statement.{statement}
+use Rattle.sends.proofs.enqueue_unrouted_unicast.Tie as tie
+use Rattle.sends.proofs.enqueue_unrouted_unicast.Reads as reads
+use Rattle.sends.proofs.enqueue_unrouted_unicast.Lts as lts
+use Rattle.calls.proofs.enqueues.enqueue_unrouted_unicast.Reads as enqueue-unrouted-unicast-reads
+
+enqueue-unrouted-unicast-requires : tie.Need-enqueue-unrouted-unicast-requires
+enqueue-unrouted-unicast-requires c κs = search needs
+
+returns : tie.Need-returns
+returns c =
+    let s = c .before .before .before .before .before .before .before .before .before .before .before .before in
+    let h = c .before .enqueue-unrouted-unicast .ensures in
+    (is-answered h, leaves-sound h (enqueue-unrouted-sound (s .pre .model) (s .args .settings) (s .args .u) (s .args .clock)))
+
+pub enqueue-unrouted-unicast-spec : {M : Type 1} → statement M
+enqueue-unrouted-unicast-spec = tie.close (tie.spec enqueue-unrouted-unicast-requires returns)
