@@ -1,0 +1,17 @@
+-- What an abandon of tables by value answers, and leaves.
+use Prim.Native.Nat.{ℕ}
+use mathlib.Core.List.{List}
+use lib.ListN.{length}
+use Rattle.calls.specs.Parts.{Listed}
+use Rattle.model.specs.Model.{Model, sendsOf}
+use Rattle.model.specs.Calls.{abandoned, emptied}
+use Rattle.model.specs.Sound.{Sound}
+use Rattle.model.specs.declared.Emptied.{Emptied}
+
+abbrev pub emptiedOf : Model → Emptied
+emptiedOf m = record { sends = sendsOf (emptied m); listed = length (abandoned m) }
+
+-- beside it: the live sends are listed from the list's start on, and the tables are sound
+pub record Left (m : Model) (list list′ : List ℕ) (r : Emptied) : Type 0 where
+  pub lists : Listed 0 (abandoned m) list list′ (r .listed)
+  pub sound : Sound (r .sends)
