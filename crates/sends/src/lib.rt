@@ -18,6 +18,7 @@ ghost use Rattle.model.specs.Model.{modelOf, answeredOf};
 ghost use Rattle.model.specs.Calls.{enqueueUnicastOf, enqueueCopyOf, enqueueUnroutedOf, enqueueBroadcastOf, dequeueOf, transmittedOf, pollOf, ackOf, retryOf, failOf, routeOf, deliveredOf, dropOf, cancelOf, tickOf};
 ghost use Rattle.model.specs.Sound.{Sound, Leaving};
 
+pub mod asks;
 pub mod lists;
 
 // A unicast with a known next hop: refused with 1, 2 or 4, or its id is issued.
