@@ -19,7 +19,7 @@ pub use Rattle.records.specs.declared.Verdict.{Verdict}
 pub use Rattle.records.specs.declared.Verdict.the-variants.{Success, Failure, Code}
 pub use Rattle.records.specs.declared.Refusal.{Refusal}
 pub use Rattle.records.specs.declared.Refusal.the-variants.{NoSuchSend, InTheRadio, NotInTheRadio, OtherFrame}
-pub use Rattle.tables.specs.declared.broadcasts.BroadcastHead.{BroadcastHead}
+pub use Rattle.tables.specs.declared.broadcast_rows.BroadcastHead.{BroadcastHead}
 pub use Rattle.broadcasts.specs.declared.TurnB.{TurnB}
 pub use Rattle.broadcasts.specs.declared.TurnB.the-variants.{KeepsB, HandsOffB, SettlesB}
 pub use Rattle.broadcasts.specs.declared.Counts.{Counts}

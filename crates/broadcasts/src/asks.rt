@@ -19,7 +19,7 @@ pub fn best_queued(w: &[u64; 112], n: usize, clock: u64) -> Best
     let mut best = Best::NoBest;
     let mut i = n;
     while 0 < i {
-        let h = tables::broadcasts::head(w, i - 1);
+        let h = tables::broadcast_rows::head(w, i - 1);
         best = crate::heads::best(h, clock, best);
         i = i - 1;
     }
@@ -34,7 +34,7 @@ pub fn next_wake(w: &[u64; 112], n: usize) -> Opt64
     let mut wake = Opt64::None64;
     let mut i = n;
     while 0 < i {
-        let h = tables::broadcasts::head(w, i - 1);
+        let h = tables::broadcast_rows::head(w, i - 1);
         wake = crate::heads::wake(h, wake);
         i = i - 1;
     }
@@ -46,10 +46,10 @@ pub fn is_transmitting(w: &[u64; 112], n: usize, id: u32) -> bool
     requires { ⌜ Held broadcastTable (now w) n ⌝ }
     ensures { λ r. ⌜ r ≡ isTransmitting id (live broadcastTable (now (w .entry)) n) ⌝ }
 {
-    match tables::broadcasts::find(w, n, id) {
+    match tables::broadcast_rows::find(w, n, id) {
         Place::Nowhere => false,
         Place::Here(i) => {
-            let h = tables::broadcasts::head(w, i);
+            let h = tables::broadcast_rows::head(w, i);
             let c = h.copy;
             crate::turns::in_radio(c)
         }
@@ -61,5 +61,5 @@ pub fn awaited_at(w: &[u64; 112], i: usize) -> Awaited
     requires { ⌜ i < 16 ⌝ }
     ensures { λ r. ⌜ r ≡ awaitedHead (broadcastHead (getD (rowsOf broadcastTable (now (w .entry))) i blankBroadcast)) ⌝ }
 {
-    crate::heads::awaited(tables::broadcasts::head(w, i))
+    crate::heads::awaited(tables::broadcast_rows::head(w, i))
 }

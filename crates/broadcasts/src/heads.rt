@@ -5,7 +5,7 @@ use records::CopyState;
 use records::Opt64;
 use records::QuorumKey;
 use records::Schedule;
-use tables::broadcasts::BroadcastHead;
+use tables::broadcast_rows::BroadcastHead;
 ghost use mathlib.Core.Path.{_≡_};
 ghost use Rattle.broadcasts.specs.Rules.{attemptBy, wakeHead, stirsHead, readyHead, better, bestHead, keyedBy, awaitedHead};
 

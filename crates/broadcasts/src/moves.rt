@@ -43,11 +43,11 @@ fn play(
     let e = records::blanks::broadcast_entry(u);
     match t {
         TurnB::KeepsB(b) => {
-            tables::broadcasts::store(w, n, i, b);
+            tables::broadcast_rows::store(w, n, i, b);
             Counts { sends: n, told: m }
         }
         TurnB::HandsOffB(b) => {
-            tables::broadcasts::store(w, n, i, b);
+            tables::broadcast_rows::store(w, n, i, b);
             let next = actions::hand_off(told, m, e);
             Counts {
                 sends: n,
@@ -56,7 +56,7 @@ fn play(
         }
         TurnB::SettlesB(again, v) => {
             let next = actions::settle_again(told, m, e, again, v, Opt16::None16);
-            tables::broadcasts::remove_at(w, n, i);
+            tables::broadcast_rows::remove_at(w, n, i);
             Counts {
                 sends: n - 1,
                 told: next,
@@ -82,7 +82,7 @@ pub fn enqueue(
     ensures { λ r. ⌜ Entered broadcastTable (now (w .entry)) n (admittedOf id frame waiter priority schedule clock handoff) (now (w .exit)) r ⌝ }
 {
     let b = crate::turns::admitted(id, frame, waiter, priority, schedule, clock, handoff);
-    tables::broadcasts::insert(w, n, b)
+    tables::broadcast_rows::insert(w, n, b)
 }
 
 // The broadcast with that id, the best queued one, goes to the radio: answers its frame.
@@ -90,11 +90,11 @@ pub fn dequeue(w: &mut [u64; 112], n: usize, id: u32) -> Opt32
     requires { ⌜ Held broadcastTable (now w) n ⌝ }
     ensures { λ r. ⌜ Dequeued id (now (w .entry)) n (now (w .exit)) r ⌝ }
 {
-    match tables::broadcasts::find(w, n, id) {
+    match tables::broadcast_rows::find(w, n, id) {
         Place::Nowhere => Opt32::None32,
         Place::Here(i) => {
-            let u = tables::broadcasts::load(w, i);
-            tables::broadcasts::store(w, n, i, crate::turns::dequeued(u));
+            let u = tables::broadcast_rows::load(w, i);
+            tables::broadcast_rows::store(w, n, i, crate::turns::dequeued(u));
             Opt32::Some32(u.frame)
         }
     }
@@ -117,10 +117,10 @@ pub fn report(
     requires { ⌜ clock ≤ lastTime ⌝ }
     ensures { λ r. ⌜ Answered id (reportBar frame) (reportTurn x clock delay) (now (w .entry)) n (now (told .entry)) m (now (w .exit)) (now (told .exit)) r ⌝ }
 {
-    match tables::broadcasts::find(w, n, id) {
+    match tables::broadcast_rows::find(w, n, id) {
         Place::Nowhere => Outcome::Refused(Refusal::NoSuchSend),
         Place::Here(i) => {
-            let u = tables::broadcasts::load(w, i);
+            let u = tables::broadcast_rows::load(w, i);
             let c = u.copy;
             if !crate::turns::in_radio(c) {
                 return Outcome::Refused(Refusal::NotInTheRadio);
@@ -140,10 +140,10 @@ pub fn cancel(w: &mut [u64; 112], n: usize, told: &mut [u64; 560], m: usize, id:
     requires { ⌜ m + 2 ≤ 112 ⌝ }
     ensures { λ r. ⌜ Answered id cancelBar cancelTurn (now (w .entry)) n (now (told .entry)) m (now (w .exit)) (now (told .exit)) r ⌝ }
 {
-    match tables::broadcasts::find(w, n, id) {
+    match tables::broadcast_rows::find(w, n, id) {
         Place::Nowhere => Outcome::Refused(Refusal::NoSuchSend),
         Place::Here(i) => {
-            let u = tables::broadcasts::load(w, i);
+            let u = tables::broadcast_rows::load(w, i);
             let c = u.copy;
             if crate::turns::in_radio(c) {
                 return Outcome::Refused(Refusal::InTheRadio);
@@ -161,7 +161,7 @@ pub fn first_keyed(w: &[u64; 112], n: usize, key: QuorumKey) -> Place
 {
     let mut i: usize = 0;
     while i < n {
-        if crate::heads::is_keyed(tables::broadcasts::schedule(w, i), key) {
+        if crate::heads::is_keyed(tables::broadcast_rows::schedule(w, i), key) {
             return Place::Here(i);
         }
         i = i + 1;
@@ -184,7 +184,7 @@ pub fn delivered(
     match first_keyed(w, n, key) {
         Place::Nowhere => Counts { sends: n, told: m },
         Place::Here(i) => {
-            let u = tables::broadcasts::load(w, i);
+            let u = tables::broadcast_rows::load(w, i);
             let t = crate::turns::delivered(u);
             play(w, n, told, m, i, u, t)
         }
@@ -204,7 +204,7 @@ fn tick_at(
     requires { ⌜ (i < n) × (m + 2 ≤ 112) ⌝ }
     ensures { λ r. ⌜ Played broadcastTable broadcastEntry (tickTurn clock (getD (rowsOf broadcastTable (now (w .entry))) i blankBroadcast)) i (getD (rowsOf broadcastTable (now (w .entry))) i blankBroadcast) (now (w .entry)) n (now (told .entry)) m (now (w .exit)) (r .sends) (now (told .exit)) (r .told) ⌝ }
 {
-    let u = tables::broadcasts::load(w, i);
+    let u = tables::broadcast_rows::load(w, i);
     let t = crate::turns::tick(u, clock);
     play(w, n, told, m, i, u, t)
 }
@@ -225,7 +225,7 @@ pub fn tick(
     let mut m = at;
     let mut i: usize = 0;
     while i < n {
-        if crate::heads::stirs(tables::broadcasts::head(w, i), clock) {
+        if crate::heads::stirs(tables::broadcast_rows::head(w, i), clock) {
             let c = tick_at(w, n, told, m, i, clock);
             // the place of a settled one is the next one's
             i = i + 1 + c.sends - n;
@@ -242,5 +242,5 @@ pub fn tick(
 pub fn abandon(w: &mut [u64; 112])
     ensures { λ _. ⌜ Holds broadcastTable (now (w .exit)) 0 [] ⌝ }
 {
-    *w = tables::broadcasts::fresh();
+    *w = tables::broadcast_rows::fresh();
 }

@@ -13,7 +13,7 @@ use Rattle.model.specs.Sound.{SoundModel, Sound, Leaving}
 use Rattle.model.specs.declared.Counts.{Counts}
 use Rattle.model.specs.declared.Did.{Did}
 use Rattle.model.specs.declared.Abandoned.{Abandoned}
-use Rattle.calls.specs.Parts.{AbandonedAll}
+use Rattle.lent.specs.Parts.{AbandonedAll}
 use Rattle.sends.specs.Lists.{emptiedOf, Left}
 
 -- words and counts that hold the lists of a model are its tables by value, and sound where it is

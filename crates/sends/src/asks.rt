@@ -24,10 +24,10 @@ pub fn fresh(first: u32) -> Sends
             held: 0,
             broadcasts: 0,
         },
-        unicasts: tables::unicasts::fresh(),
-        unrouted: tables::unrouted::fresh(),
-        held: tables::destinations::fresh(),
-        broadcasts: tables::broadcasts::fresh(),
+        unicasts: tables::unicast_rows::fresh(),
+        unrouted: tables::unrouted_rows::fresh(),
+        held: tables::destination_rows::fresh(),
+        broadcasts: tables::broadcast_rows::fresh(),
     }
 }
 
@@ -41,7 +41,7 @@ pub fn next_wake(s: Sends) -> Opt64
     let v = s.unrouted;
     let d = s.held;
     let b = s.broadcasts;
-    calls::ends::next_wake(c, &w, &v, &d, &b)
+    lent::ends::next_wake(c, &w, &v, &d, &b)
 }
 
 // Whether the destination is held: its discovery is under way.

@@ -1,5 +1,5 @@
 // The calls over the send tables by value: each takes the tables and gives them back with its answer, its actions told into a lent
-// buffer. No logic: each lends its tables to the call of `calls` with its name.
+// buffer. No logic: each lends its tables to the call of `lent` with its name.
 use model::Answered;
 use model::Lender;
 use model::NewBroadcast;
@@ -38,7 +38,7 @@ pub fn enqueue_unicast(
     let mut v = s.unrouted;
     let mut d = s.held;
     let mut b = s.broadcasts;
-    let x = calls::enqueues::enqueue_unicast(
+    let x = lent::enqueues::enqueue_unicast(
         c,
         &mut w,
         &mut v,
@@ -82,7 +82,7 @@ pub fn enqueue_broadcast_copy(
     let mut v = s.unrouted;
     let mut d = s.held;
     let mut b = s.broadcasts;
-    let x = calls::enqueues::enqueue_broadcast_copy(
+    let x = lent::enqueues::enqueue_broadcast_copy(
         c,
         &mut w,
         &mut v,
@@ -127,7 +127,7 @@ pub fn enqueue_unrouted_unicast(
     let mut v = s.unrouted;
     let mut d = s.held;
     let mut b = s.broadcasts;
-    let x = calls::enqueues::enqueue_unrouted_unicast(
+    let x = lent::enqueues::enqueue_unrouted_unicast(
         c,
         &mut w,
         &mut v,
@@ -170,7 +170,7 @@ pub fn enqueue_broadcast(
     let mut v = s.unrouted;
     let mut d = s.held;
     let mut b = s.broadcasts;
-    let x = calls::enqueues::enqueue_broadcast(
+    let x = lent::enqueues::enqueue_broadcast(
         c,
         &mut w,
         &mut v,
@@ -207,7 +207,7 @@ pub fn dequeue(s: Sends, told: &mut [u64; 560], clock: u64) -> Answered
     let mut v = s.unrouted;
     let mut d = s.held;
     let mut b = s.broadcasts;
-    let x = calls::radio::dequeue(c, &mut w, &mut v, &mut d, &mut b, told, clock);
+    let x = lent::radio::dequeue(c, &mut w, &mut v, &mut d, &mut b, told, clock);
     let n = x.counts;
     let a = x.answer;
     Answered {
@@ -244,7 +244,7 @@ pub fn transmitted(
     let mut v = s.unrouted;
     let mut d = s.held;
     let mut b = s.broadcasts;
-    let x = calls::radio::transmitted(
+    let x = lent::radio::transmitted(
         c,
         &mut w,
         &mut v,
@@ -284,7 +284,7 @@ pub fn poll(s: Sends, told: &mut [u64; 560], eui: Opt64, nwk: Opt16, clock: u64)
     let mut v = s.unrouted;
     let mut d = s.held;
     let mut b = s.broadcasts;
-    let x = calls::devices::poll(c, &mut w, &mut v, &mut d, &mut b, told, eui, nwk, clock);
+    let x = lent::devices::poll(c, &mut w, &mut v, &mut d, &mut b, told, eui, nwk, clock);
     let n = x.counts;
     let a = x.answer;
     Answered {
@@ -311,7 +311,7 @@ pub fn aps_ack_received(s: Sends, told: &mut [u64; 560], key: AckKey) -> Answere
     let mut v = s.unrouted;
     let mut d = s.held;
     let mut b = s.broadcasts;
-    let x = calls::devices::aps_ack_received(c, &mut w, &mut v, &mut d, &mut b, told, key);
+    let x = lent::devices::aps_ack_received(c, &mut w, &mut v, &mut d, &mut b, told, key);
     let n = x.counts;
     let a = x.answer;
     Answered {
@@ -338,7 +338,7 @@ pub fn retry_discovery(s: Sends, told: &mut [u64; 560], destination: u16) -> Ans
     let mut v = s.unrouted;
     let mut d = s.held;
     let mut b = s.broadcasts;
-    let x = calls::routes::retry_discovery(c, &mut w, &mut v, &mut d, &mut b, told, destination);
+    let x = lent::routes::retry_discovery(c, &mut w, &mut v, &mut d, &mut b, told, destination);
     let n = x.counts;
     let a = x.answer;
     Answered {
@@ -365,7 +365,7 @@ pub fn fail_unrouted(s: Sends, told: &mut [u64; 560], destination: u16) -> Answe
     let mut v = s.unrouted;
     let mut d = s.held;
     let mut b = s.broadcasts;
-    let x = calls::routes::fail_unrouted(c, &mut w, &mut v, &mut d, &mut b, told, destination);
+    let x = lent::routes::fail_unrouted(c, &mut w, &mut v, &mut d, &mut b, told, destination);
     let n = x.counts;
     let a = x.answer;
     Answered {
@@ -400,7 +400,7 @@ pub fn route_unicasts(
     let mut v = s.unrouted;
     let mut d = s.held;
     let mut b = s.broadcasts;
-    let x = calls::routes::route_unicasts(
+    let x = lent::routes::route_unicasts(
         c,
         &mut w,
         &mut v,
@@ -439,7 +439,7 @@ pub fn broadcast_delivered(s: Sends, told: &mut [u64; 560], key: QuorumKey) -> A
     let mut v = s.unrouted;
     let mut d = s.held;
     let mut b = s.broadcasts;
-    let x = calls::devices::broadcast_delivered(c, &mut w, &mut v, &mut d, &mut b, told, key);
+    let x = lent::devices::broadcast_delivered(c, &mut w, &mut v, &mut d, &mut b, told, key);
     let n = x.counts;
     let a = x.answer;
     Answered {
@@ -466,7 +466,7 @@ pub fn drop_indirect_unicasts(s: Sends, told: &mut [u64; 560], eui: Opt64, nwk: 
     let mut v = s.unrouted;
     let mut d = s.held;
     let mut b = s.broadcasts;
-    let x = calls::devices::drop_indirect_unicasts(
+    let x = lent::devices::drop_indirect_unicasts(
         c,
         &mut w,
         &mut v,
@@ -503,7 +503,7 @@ pub fn cancel(s: Sends, told: &mut [u64; 560], id: u32) -> Answered
     let mut v = s.unrouted;
     let mut d = s.held;
     let mut b = s.broadcasts;
-    let x = calls::ends::cancel(c, &mut w, &mut v, &mut d, &mut b, told, id);
+    let x = lent::ends::cancel(c, &mut w, &mut v, &mut d, &mut b, told, id);
     let n = x.counts;
     let a = x.answer;
     Answered {
@@ -530,7 +530,7 @@ pub fn tick(s: Sends, told: &mut [u64; 560], clock: u64) -> Answered
     let mut v = s.unrouted;
     let mut d = s.held;
     let mut b = s.broadcasts;
-    let x = calls::ends::tick(c, &mut w, &mut v, &mut d, &mut b, told, clock);
+    let x = lent::ends::tick(c, &mut w, &mut v, &mut d, &mut b, told, clock);
     let n = x.counts;
     let a = x.answer;
     Answered {

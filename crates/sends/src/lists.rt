@@ -1,5 +1,5 @@
 // The calls that give lists, each into a lent array: what lies past the reported length stays as it came.
-use calls::lists::Matched;
+use lent::lists::Matched;
 use model::Emptied;
 use model::Sends;
 use unicasts::Book;
@@ -10,7 +10,7 @@ ghost use Rattle.broadcasts.specs.Rules.{awaitedOf};
 ghost use Rattle.model.specs.Model.{modelOf};
 ghost use Rattle.model.specs.Steps.{destinationsOf};
 ghost use Rattle.model.specs.Sound.{Sound};
-ghost use Rattle.calls.specs.Fills.{Filled, Matching};
+ghost use Rattle.lent.specs.Fills.{Filled, Matching};
 ghost use Rattle.sends.specs.Lists.{emptiedOf, Left};
 
 // Every table is emptied, and each live send is listed: its id, then its waiter, from the list's start on. The next id stays.
@@ -24,7 +24,7 @@ pub fn abandon(s: Sends, list: &mut [u64; 128]) -> Emptied
     let mut v = s.unrouted;
     let mut d = s.held;
     let mut b = s.broadcasts;
-    let x = calls::ends::abandon(c, &mut w, &mut v, &mut d, &mut b, list);
+    let x = lent::ends::abandon(c, &mut w, &mut v, &mut d, &mut b, list);
     let n = x.counts;
     Emptied {
         sends: Sends {
@@ -45,7 +45,7 @@ pub fn unrouted_destinations(s: Sends, out: &mut [u16; 16]) -> usize
 {
     let c = s.counts;
     let d = s.held;
-    calls::lists::destinations(&d, c.held, out)
+    lent::lists::destinations(&d, c.held, out)
 }
 
 // The keys whose quorum is awaited, by the broadcast's id, each as one word: source + 65536 * sequence.
@@ -55,7 +55,7 @@ pub fn broadcasts_awaiting_quorum(s: Sends, out: &mut [u64; 16]) -> usize
 {
     let c = s.counts;
     let b = s.broadcasts;
-    calls::lists::awaiting_quorum(&b, c.broadcasts, out)
+    lent::lists::awaiting_quorum(&b, c.broadcasts, out)
 }
 
 // The short or the extended addresses that the radio answers a poll from with frame pending, rising, each once; refused with
@@ -72,5 +72,5 @@ pub fn poll_addresses(
 {
     let c = s.counts;
     let w = s.unicasts;
-    calls::lists::poll_addresses(&w, c.unicasts, book, eui, nwk, out)
+    lent::lists::poll_addresses(&w, c.unicasts, book, eui, nwk, out)
 }

@@ -10,9 +10,9 @@ use Rattle.records.specs.declared.Unicast.{Unicast}
 use Rattle.records.specs.declared.Unrouted.{Unrouted}
 use Rattle.records.specs.declared.Broadcast.{Broadcast}
 use Rattle.records.specs.declared.Destination.{Destination}
-use Rattle.tables.specs.declared.unicasts.UnicastHead.{UnicastHead}
-use Rattle.tables.specs.declared.unrouted.UnroutedHead.{UnroutedHead}
-use Rattle.tables.specs.declared.broadcasts.BroadcastHead.{BroadcastHead}
+use Rattle.tables.specs.declared.unicast_rows.UnicastHead.{UnicastHead}
+use Rattle.tables.specs.declared.unrouted_rows.UnroutedHead.{UnroutedHead}
+use Rattle.tables.specs.declared.broadcast_rows.BroadcastHead.{BroadcastHead}
 use Rattle.records.specs.Pick.{bit}
 use Rattle.codes.specs.Codes.{Coded, opt16Word, opt16From, opt32Word, opt32From, priorityFrom, flag, addressTag, addressWord, addressFrom, stageTag, stageTime, stageFrom, copyTag, copyFrom, scheduleTag, scheduleCopies, scheduleWhat, scheduleNext, scheduleFrom, confirmFirst, confirmSecond, confirmFrom}
 use Rattle.rows.specs.Tables.{Layout, Table}

@@ -1,5 +1,5 @@
 // Id-ordered fixed tables, held as words that are lent and changed in place: find, insert, remove, and the record at a place.
-pub mod broadcasts;
-pub mod destinations;
-pub mod unicasts;
-pub mod unrouted;
+pub mod broadcast_rows;
+pub mod destination_rows;
+pub mod unicast_rows;
+pub mod unrouted_rows;

@@ -24,7 +24,7 @@ pub use Rattle.records.specs.declared.Verdict.{Verdict}
 pub use Rattle.records.specs.declared.Verdict.the-variants.{Success, Failure, Code}
 pub use Rattle.records.specs.declared.Refusal.{Refusal}
 pub use Rattle.records.specs.declared.Refusal.the-variants.{NoSuchSend, InTheRadio, NotInTheRadio, OtherFrame}
-pub use Rattle.tables.specs.declared.unicasts.UnicastHead.{UnicastHead}
+pub use Rattle.tables.specs.declared.unicast_rows.UnicastHead.{UnicastHead}
 pub use Rattle.unicasts.specs.declared.UnicastTurn.{UnicastTurn}
 pub use Rattle.unicasts.specs.declared.UnicastTurn.the-variants.{KeepsU, HandsOffU, SettlesU}
 pub use Rattle.unicasts.specs.declared.Due.{Due}

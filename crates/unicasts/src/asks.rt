@@ -20,7 +20,7 @@ pub fn first_such(w: &[u64; 320], n: usize, what: Sought) -> Place
 {
     let mut i: usize = 0;
     while i < n {
-        if crate::rules::is_sought(tables::unicasts::head(w, i), what) {
+        if crate::rules::is_sought(tables::unicast_rows::head(w, i), what) {
             return Place::Here(i);
         }
         i = i + 1;
@@ -35,7 +35,7 @@ pub fn first_keyed(w: &[u64; 320], n: usize, key: AckKey) -> Place
 {
     let mut at: usize = 0;
     while at < n {
-        if crate::rules::is_keyed(tables::unicasts::confirm(w, at), key) {
+        if crate::rules::is_keyed(tables::unicast_rows::confirm(w, at), key) {
             return Place::Here(at);
         }
         at = at + 1;
@@ -85,7 +85,7 @@ pub fn best_queued(w: &[u64; 320], n: usize, clock: u64) -> Best
     let mut best = Best::NoneReady;
     let mut i = n;
     while 0 < i {
-        best = crate::rules::best_with(tables::unicasts::head(w, i - 1), clock, best);
+        best = crate::rules::best_with(tables::unicast_rows::head(w, i - 1), clock, best);
         i = i - 1;
     }
     best
@@ -99,7 +99,7 @@ pub fn next_wake(w: &[u64; 320], n: usize) -> Opt64
     let mut wake = Opt64::None64;
     let mut left = n;
     while 0 < left {
-        wake = crate::rules::wake_with(tables::unicasts::head(w, left - 1), wake);
+        wake = crate::rules::wake_with(tables::unicast_rows::head(w, left - 1), wake);
         left = left - 1;
     }
     wake

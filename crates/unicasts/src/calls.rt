@@ -48,10 +48,10 @@ fn finish(
     requires { ⌜ m + 2 ≤ 112 ⌝ }
     ensures { λ r. ⌜ Played unicastTable unicastEntry (Settles again v hop) i (getD (rowsOf unicastTable (now (w .entry))) i blankUnicast) (now (w .entry)) n (now (told .entry)) m (now (w .exit)) (n - 1) (now (told .exit)) r ⌝ }
 {
-    let u = tables::unicasts::load(w, i);
+    let u = tables::unicast_rows::load(w, i);
     let e = records::blanks::unicast_entry(u);
     let next = actions::settle_again(told, m, e, again, v, hop);
-    tables::unicasts::remove_at(w, n, i);
+    tables::unicast_rows::remove_at(w, n, i);
     next
 }
 
@@ -74,13 +74,13 @@ fn play(
 {
     match t {
         UnicastTurn::KeepsU(v) => {
-            tables::unicasts::store(w, n, i, v);
+            tables::unicast_rows::store(w, n, i, v);
             Counts { sends: n, told: m }
         }
         UnicastTurn::HandsOffU(v) => {
             let e = records::blanks::unicast_entry(u);
             let next = actions::hand_off(told, m, e);
-            tables::unicasts::store(w, n, i, v);
+            tables::unicast_rows::store(w, n, i, v);
             Counts {
                 sends: n,
                 told: next,
@@ -101,7 +101,7 @@ pub fn enqueue(w: &mut [u64; 320], n: usize, u: Unicast) -> Inserted
     requires { ⌜ Held unicastTable (now w) n ⌝ }
     ensures { λ r. ⌜ Entered unicastTable (now (w .entry)) n u (now (w .exit)) r ⌝ }
 {
-    tables::unicasts::insert(w, n, u)
+    tables::unicast_rows::insert(w, n, u)
 }
 
 // A device polls: its oldest frame is queued ahead of everything else.
@@ -112,9 +112,9 @@ pub fn poll(w: &mut [u64; 320], n: usize, eui: Opt64, nwk: Opt16, clock: u64) ->
     match crate::asks::first_such(w, n, Sought::Polled(eui, nwk, clock)) {
         Place::Nowhere => false,
         Place::Here(i) => {
-            let u = tables::unicasts::load(w, i);
+            let u = tables::unicast_rows::load(w, i);
             let v = crate::rules::polled(u);
-            tables::unicasts::store(w, n, i, v);
+            tables::unicast_rows::store(w, n, i, v);
             true
         }
     }
@@ -125,14 +125,14 @@ pub fn dequeue(w: &mut [u64; 320], n: usize, id: u32) -> Loan
     requires { ⌜ Held unicastTable (now w) n ⌝ }
     ensures { λ r. ⌜ Dequeued id (now (w .entry)) n (now (w .exit)) r ⌝ }
 {
-    match tables::unicasts::find(w, n, id) {
+    match tables::unicast_rows::find(w, n, id) {
         Place::Nowhere => Loan::NoLoan,
         Place::Here(i) => {
-            let u = tables::unicasts::load(w, i);
+            let u = tables::unicast_rows::load(w, i);
             let a = u.poll_address;
             let pending = crate::asks::frame_pending(w, n, id, a);
             let v = crate::rules::staged(u, Stage::Transmitting(false));
-            tables::unicasts::store(w, n, i, v);
+            tables::unicast_rows::store(w, n, i, v);
             Loan::Lent(u.frame, u.next_hop, pending)
         }
     }
@@ -147,7 +147,7 @@ pub fn ack(w: &mut [u64; 320], n: usize, told: &mut [u64; 560], m: usize, key: A
     match crate::asks::first_keyed(w, n, key) {
         Place::Nowhere => Counts { sends: n, told: m },
         Place::Here(i) => {
-            let u = tables::unicasts::load(w, i);
+            let u = tables::unicast_rows::load(w, i);
             let t = crate::rules::ack_turn(u);
             play(w, n, told, m, i, u, t)
         }
@@ -171,10 +171,10 @@ pub fn report(
     requires { ⌜ clock ≤ lastTime ⌝ }
     ensures { λ r. ⌜ Called (reportBar frame) (reportTurn result clock delay) id (now (w .entry)) n (now (told .entry)) m (now (w .exit)) (now (told .exit)) r ⌝ }
 {
-    match tables::unicasts::find(w, n, id) {
+    match tables::unicast_rows::find(w, n, id) {
         Place::Nowhere => Outcome::Refused(Refusal::NoSuchSend),
         Place::Here(i) => {
-            let u = tables::unicasts::load(w, i);
+            let u = tables::unicast_rows::load(w, i);
             let s = u.stage;
             if crate::rules::is_sending(s) {
                 if u.frame == frame {
@@ -195,10 +195,10 @@ pub fn cancel(w: &mut [u64; 320], n: usize, told: &mut [u64; 560], m: usize, id:
     requires { ⌜ m + 2 ≤ 112 ⌝ }
     ensures { λ r. ⌜ Called cancelBar cancelTurn id (now (w .entry)) n (now (told .entry)) m (now (w .exit)) (now (told .exit)) r ⌝ }
 {
-    match tables::unicasts::find(w, n, id) {
+    match tables::unicast_rows::find(w, n, id) {
         Place::Nowhere => Outcome::Refused(Refusal::NoSuchSend),
         Place::Here(i) => {
-            let u = tables::unicasts::load(w, i);
+            let u = tables::unicast_rows::load(w, i);
             let s = u.stage;
             if crate::rules::is_sending(s) {
                 return Outcome::Refused(Refusal::InTheRadio);
@@ -216,9 +216,9 @@ fn requeue(w: &mut [u64; 320], n: usize, i: usize)
     requires { ⌜ i < n ⌝ }
     ensures { λ _. ⌜ Holds unicastTable (now (w .exit)) n (set (live unicastTable (now (w .entry)) n) i (withStage (getD (rowsOf unicastTable (now (w .entry))) i blankUnicast) Queued)) ⌝ }
 {
-    let u = tables::unicasts::load(w, i);
+    let u = tables::unicast_rows::load(w, i);
     let v = crate::rules::staged(u, Stage::Queued);
-    tables::unicasts::store(w, n, i, v);
+    tables::unicast_rows::store(w, n, i, v);
 }
 
 // Every send has its turn.
@@ -231,7 +231,7 @@ fn sweep(w: &mut [u64; 320], sends: usize, told: &mut [u64; 560], at: usize, whi
     let mut m = at;
     let mut i: usize = 0;
     while i < n {
-        match crate::rules::due_of(tables::unicasts::head(w, i), which) {
+        match crate::rules::due_of(tables::unicast_rows::head(w, i), which) {
             Due::Leave => {
                 i = i + 1;
             }
@@ -292,5 +292,5 @@ pub fn cancel_copies(
 pub fn abandon(w: &mut [u64; 320])
     ensures { λ _. ⌜ Holds unicastTable (now (w .exit)) 0 [] ⌝ }
 {
-    *w = tables::unicasts::fresh();
+    *w = tables::unicast_rows::fresh();
 }

@@ -17,7 +17,7 @@ use records::Stage;
 use records::TxResult;
 use records::Unicast;
 use records::Verdict;
-use tables::unicasts::UnicastHead;
+use tables::unicast_rows::UnicastHead;
 ghost use mathlib.Core.Path.{_≡_};
 ghost use Prim.Native.Nat.{_+_, _≤_};
 ghost use Rattle.records.specs.Limits.{lastTime};

@@ -5,7 +5,7 @@ use crate::Listing;
 use records::Address;
 use records::Opt64;
 use records::Refusal;
-use tables::unicasts::UnicastHead;
+use tables::unicast_rows::UnicastHead;
 ghost use mathlib.Core.Path.{_≡_};
 ghost use Rattle.rows.specs.Tables.{live, Held};
 ghost use Rattle.tables.specs.Layouts.{unicastTable};
@@ -117,7 +117,7 @@ pub fn next_member(
     let mut least = Opt64::None64;
     let mut i = n;
     while 0 < i {
-        let m = member_of(tables::unicasts::head(w, i - 1), book, eui, nwk);
+        let m = member_of(tables::unicast_rows::head(w, i - 1), book, eui, nwk);
         least = least_with(last, m, least);
         i = i - 1;
     }

@@ -10,7 +10,7 @@ pub use Rattle.records.specs.declared.Destination.{Destination}
 pub use Rattle.records.specs.declared.SendFailure.{SendFailure}
 pub use Rattle.records.specs.declared.SendFailure.the-variants.{HandoffTimeout, RouteDiscoveryTimeout, Cancelled}
 pub use Rattle.records.specs.declared.Verdict.the-variants.{Failure}
-pub use Rattle.tables.specs.declared.unrouted.UnroutedHead.{UnroutedHead}
+pub use Rattle.tables.specs.declared.unrouted_rows.UnroutedHead.{UnroutedHead}
 pub use Rattle.unrouted.specs.declared.Which.{Which}
 pub use Rattle.unrouted.specs.declared.Which.the-variants.{Lapsed, Bound}
 pub use Rattle.unrouted.specs.declared.Entering.{Entering}

@@ -9,7 +9,7 @@ use records::Unrouted;
 use records::Verdict;
 use rows::Inserted;
 use rows::Place;
-use tables::unrouted::UnroutedHead;
+use tables::unrouted_rows::UnroutedHead;
 ghost use mathlib.Core.Path.{_≡_};
 ghost use mathlib.Core.Bool.{Bool, true, false};
 ghost use Prim.Native.Nat.{_+_, _*_, _-_, _≤_, _<_};
@@ -127,10 +127,10 @@ fn drop_at(
     requires { ⌜ m < 112 ⌝ }
     ensures { λ r. ⌜ Played unroutedTable unroutedEntry (Settles false (Failure f) None16) i (getD (rowsOf unroutedTable (now (w .entry))) i blankUnrouted) (now (w .entry)) n (now (told .entry)) m (now (w .exit)) (n - 1) (now (told .exit)) r ⌝ }
 {
-    let u = tables::unrouted::load(w, i);
+    let u = tables::unrouted_rows::load(w, i);
     let e = records::blanks::unrouted_entry(u);
     let next = actions::settle(told, m, e, Verdict::Failure(f), Opt16::None16);
-    tables::unrouted::remove_at(w, n, i);
+    tables::unrouted_rows::remove_at(w, n, i);
     next
 }
 
@@ -150,7 +150,7 @@ pub fn sweep(
     let mut m = at;
     let mut i: usize = 0;
     while i < n {
-        if chosen(tables::unrouted::head(w, i), which) {
+        if chosen(tables::unrouted_rows::head(w, i), which) {
             m = drop_at(w, n, told, m, i, failure(which));
             n = n - 1;
         } else {
@@ -167,7 +167,10 @@ pub fn first_to(w: &[u64; 112], n: usize, destination: u16) -> Place
 {
     let mut at: usize = 0;
     while at < n {
-        if chosen(tables::unrouted::head(w, at), Which::Bound(destination)) {
+        if chosen(
+            tables::unrouted_rows::head(w, at),
+            Which::Bound(destination),
+        ) {
             return Place::Here(at);
         }
         at = at + 1;
@@ -206,7 +209,7 @@ pub fn left_to(w: &[u64; 112], n: usize, destination: u16, clock: u64) -> usize
     let mut i = n;
     while 0 < i {
         i = i - 1;
-        left = one_if_left(tables::unrouted::head(w, i), destination, clock) + left;
+        left = one_if_left(tables::unrouted_rows::head(w, i), destination, clock) + left;
     }
     left
 }
@@ -219,7 +222,7 @@ pub fn next_wake(w: &[u64; 112], n: usize) -> Opt64
     let mut wake = Opt64::None64;
     let mut i = n;
     while 0 < i {
-        let h = tables::unrouted::head(w, i - 1);
+        let h = tables::unrouted_rows::head(w, i - 1);
         wake = records::times::sooner_of(h.deadline, wake);
         i = i - 1;
     }
@@ -234,8 +237,8 @@ pub fn take(w: &mut [u64; 112], n: usize, destination: u16) -> NextSend
     match first_to(w, n, destination) {
         Place::Nowhere => NextSend::Nothing,
         Place::Here(i) => {
-            let u = tables::unrouted::load(w, i);
-            tables::unrouted::remove_at(w, n, i);
+            let u = tables::unrouted_rows::load(w, i);
+            tables::unrouted_rows::remove_at(w, n, i);
             NextSend::Took(u)
         }
     }
@@ -247,7 +250,7 @@ pub fn cancel(w: &mut [u64; 112], n: usize, told: &mut [u64; 560], m: usize, id:
     requires { ⌜ m < 112 ⌝ }
     ensures { λ r. ⌜ Turned unroutedTable unroutedEntry (hasId unroutedEntry id) cancelTurn (now (w .entry)) n (now (told .entry)) m (now (w .exit)) (r .sends) (now (told .exit)) (r .told) ⌝ }
 {
-    match tables::unrouted::find(w, n, id) {
+    match tables::unrouted_rows::find(w, n, id) {
         Place::Nowhere => Counts { sends: n, told: m },
         Place::Here(i) => {
             let next = drop_at(w, n, told, m, i, SendFailure::Cancelled);
@@ -265,7 +268,7 @@ pub fn is_held(d: &[u64; 32], k: usize, destination: u16) -> bool
     requires { ⌜ Held destinationTable (now d) k ⌝ }
     ensures { λ r. ⌜ r ≡ isHeld destination (live destinationTable (now (d .entry)) k) ⌝ }
 {
-    match tables::destinations::find(d, k, destination) {
+    match tables::destination_rows::find(d, k, destination) {
         Place::Here(_) => true,
         Place::Nowhere => false,
     }
@@ -276,7 +279,7 @@ pub fn destination_at(d: &[u64; 32], i: usize) -> u16
     requires { ⌜ i < 16 ⌝ }
     ensures { λ r. ⌜ r ≡ getD (rowsOf destinationTable (now (d .entry))) i blankDestination .address ⌝ }
 {
-    let h = tables::destinations::load(d, i);
+    let h = tables::destination_rows::load(d, i);
     h.address
 }
 
@@ -286,7 +289,7 @@ fn enter(w: &mut [u64; 112], n: usize, u: Unrouted) -> usize
     requires { ⌜ n < 16 ⌝ }
     ensures { λ r. ⌜ Holds unroutedTable (now (w .exit)) r (insertBy unroutedId u (live unroutedTable (now (w .entry)) n)) ⌝ }
 {
-    match tables::unrouted::insert(w, n, u) {
+    match tables::unrouted_rows::insert(w, n, u) {
         Inserted::Full => n,
         Inserted::Holding(m) => m,
     }
@@ -311,7 +314,7 @@ fn hold(d: &mut [u64; 32], k: usize, destination: u16, attempts: u8) -> usize
         address: destination,
         retries: restarts(attempts),
     };
-    match tables::destinations::insert(d, k, h) {
+    match tables::destination_rows::insert(d, k, h) {
         Inserted::Full => k,
         Inserted::Holding(m) => m,
     }
@@ -357,10 +360,10 @@ pub fn retry_discovery(
     requires { ⌜ Held destinationTable (now d) k ⌝ }
     ensures { λ r. ⌜ Retried destination (now (w .entry)) n (now (d .entry)) k (now (d .exit)) r ⌝ }
 {
-    match tables::destinations::find(d, k, destination) {
+    match tables::destination_rows::find(d, k, destination) {
         Place::Nowhere => Retry::NotHeld,
         Place::Here(i) => {
-            let h = tables::destinations::load(d, i);
+            let h = tables::destination_rows::load(d, i);
             if h.retries == 0 {
                 return Retry::Declined;
             }
@@ -371,7 +374,7 @@ pub fn retry_discovery(
                 address: h.address,
                 retries: h.retries - 1,
             };
-            tables::destinations::store(d, k, i, spent);
+            tables::destination_rows::store(d, k, i, spent);
             Retry::Granted
         }
     }
@@ -392,7 +395,7 @@ pub fn fail(
     requires { ⌜ m + n * 2 ≤ 112 ⌝ }
     ensures { λ r. ⌜ FailedAll destination (now (w .entry)) n (now (d .entry)) k (now (told .entry)) m (now (w .exit)) (now (d .exit)) (now (told .exit)) r ⌝ }
 {
-    let held = tables::destinations::remove(d, k, destination);
+    let held = tables::destination_rows::remove(d, k, destination);
     let counts = sweep(w, n, told, m, Which::Bound(destination));
     Failed {
         sends: counts.sends,
@@ -405,6 +408,6 @@ pub fn fail(
 pub fn abandon(w: &mut [u64; 112], d: &mut [u64; 32])
     ensures { λ _. ⌜ Abandoned (now (w .exit)) (now (d .exit)) ⌝ }
 {
-    *w = tables::unrouted::fresh();
-    *d = tables::destinations::fresh();
+    *w = tables::unrouted_rows::fresh();
+    *d = tables::destination_rows::fresh();
 }

@@ -5,7 +5,7 @@ use Rattle.sends.proofs.aps_ack_received.Statement.{statement}
 use Rattle.sends.proofs.aps_ack_received.Tie as tie
 use Rattle.sends.proofs.aps_ack_received.Reads as reads
 use Rattle.sends.proofs.aps_ack_received.Lts as lts
-use Rattle.calls.proofs.devices.aps_ack_received.Reads as aps-ack-received-reads
+use Rattle.lent.proofs.devices.aps_ack_received.Reads as aps-ack-received-reads
 
 aps-ack-received-requires : tie.Need-aps-ack-received-requires
 aps-ack-received-requires c κs = search needs

@@ -5,7 +5,7 @@ use Rattle.sends.proofs.broadcast_delivered.Statement.{statement}
 use Rattle.sends.proofs.broadcast_delivered.Tie as tie
 use Rattle.sends.proofs.broadcast_delivered.Reads as reads
 use Rattle.sends.proofs.broadcast_delivered.Lts as lts
-use Rattle.calls.proofs.devices.broadcast_delivered.Reads as broadcast-delivered-reads
+use Rattle.lent.proofs.devices.broadcast_delivered.Reads as broadcast-delivered-reads
 
 broadcast-delivered-requires : tie.Need-broadcast-delivered-requires
 broadcast-delivered-requires c κs = search needs

@@ -5,7 +5,7 @@ use Rattle.sends.proofs.cancel.Statement.{statement}
 use Rattle.sends.proofs.cancel.Tie as tie
 use Rattle.sends.proofs.cancel.Reads as reads
 use Rattle.sends.proofs.cancel.Lts as lts
-use Rattle.calls.proofs.ends.cancel.Reads as cancel-reads
+use Rattle.lent.proofs.ends.cancel.Reads as cancel-reads
 
 cancel-requires : tie.Need-cancel-requires
 cancel-requires c κs = search needs

@@ -5,7 +5,7 @@ use Rattle.sends.proofs.dequeue.Statement.{statement}
 use Rattle.sends.proofs.dequeue.Tie as tie
 use Rattle.sends.proofs.dequeue.Reads as reads
 use Rattle.sends.proofs.dequeue.Lts as lts
-use Rattle.calls.proofs.radio.dequeue.Reads as dequeue-reads
+use Rattle.lent.proofs.radio.dequeue.Reads as dequeue-reads
 
 dequeue-requires : tie.Need-dequeue-requires
 dequeue-requires c κs = search needs

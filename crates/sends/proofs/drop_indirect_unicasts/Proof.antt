@@ -5,7 +5,7 @@ use Rattle.sends.proofs.drop_indirect_unicasts.Statement.{statement}
 use Rattle.sends.proofs.drop_indirect_unicasts.Tie as tie
 use Rattle.sends.proofs.drop_indirect_unicasts.Reads as reads
 use Rattle.sends.proofs.drop_indirect_unicasts.Lts as lts
-use Rattle.calls.proofs.devices.drop_indirect_unicasts.Reads as drop-indirect-unicasts-reads
+use Rattle.lent.proofs.devices.drop_indirect_unicasts.Reads as drop-indirect-unicasts-reads
 
 drop-indirect-unicasts-requires : tie.Need-drop-indirect-unicasts-requires
 drop-indirect-unicasts-requires c κs = search needs

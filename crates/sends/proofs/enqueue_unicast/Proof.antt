@@ -5,7 +5,7 @@ use Rattle.sends.proofs.enqueue_unicast.Statement.{statement}
 use Rattle.sends.proofs.enqueue_unicast.Tie as tie
 use Rattle.sends.proofs.enqueue_unicast.Reads as reads
 use Rattle.sends.proofs.enqueue_unicast.Lts as lts
-use Rattle.calls.proofs.enqueues.enqueue_unicast.Reads as enqueue-unicast-reads
+use Rattle.lent.proofs.enqueues.enqueue_unicast.Reads as enqueue-unicast-reads
 
 enqueue-unicast-requires : tie.Need-enqueue-unicast-requires
 enqueue-unicast-requires c κs = search needs

@@ -5,7 +5,7 @@ use Rattle.sends.proofs.enqueue_unrouted_unicast.Statement.{statement}
 use Rattle.sends.proofs.enqueue_unrouted_unicast.Tie as tie
 use Rattle.sends.proofs.enqueue_unrouted_unicast.Reads as reads
 use Rattle.sends.proofs.enqueue_unrouted_unicast.Lts as lts
-use Rattle.calls.proofs.enqueues.enqueue_unrouted_unicast.Reads as enqueue-unrouted-unicast-reads
+use Rattle.lent.proofs.enqueues.enqueue_unrouted_unicast.Reads as enqueue-unrouted-unicast-reads
 
 enqueue-unrouted-unicast-requires : tie.Need-enqueue-unrouted-unicast-requires
 enqueue-unrouted-unicast-requires c κs = search needs

@@ -5,7 +5,7 @@ use Rattle.sends.proofs.poll.Statement.{statement}
 use Rattle.sends.proofs.poll.Tie as tie
 use Rattle.sends.proofs.poll.Reads as reads
 use Rattle.sends.proofs.poll.Lts as lts
-use Rattle.calls.proofs.devices.poll.Reads as poll-reads
+use Rattle.lent.proofs.devices.poll.Reads as poll-reads
 
 poll-requires : tie.Need-poll-requires
 poll-requires c κs = search needs

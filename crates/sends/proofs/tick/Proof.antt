@@ -5,7 +5,7 @@ use Rattle.sends.proofs.tick.Statement.{statement}
 use Rattle.sends.proofs.tick.Tie as tie
 use Rattle.sends.proofs.tick.Reads as reads
 use Rattle.sends.proofs.tick.Lts as lts
-use Rattle.calls.proofs.ends.tick.Reads as tick-reads
+use Rattle.lent.proofs.ends.tick.Reads as tick-reads
 
 tick-requires : tie.Need-tick-requires
 tick-requires c κs = search needs

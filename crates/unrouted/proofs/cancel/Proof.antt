@@ -12,7 +12,7 @@ use Rattle.unrouted.proofs.cancel.Statement.{statement}
 use Rattle.unrouted.proofs.cancel.Tie as tie
 use Rattle.unrouted.proofs.cancel.Reads as reads
 use Rattle.unrouted.proofs.cancel.Lts as lts
-use Rattle.tables.proofs.unrouted.find.Reads as find-reads
+use Rattle.tables.proofs.unrouted_rows.find.Reads as find-reads
 use Rattle.unrouted.proofs.drop_at.Reads as drop-at-reads
 
 find-requires : tie.Need-find-requires

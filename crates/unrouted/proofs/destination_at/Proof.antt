@@ -5,7 +5,7 @@ use Rattle.unrouted.proofs.destination_at.Statement.{statement}
 use Rattle.unrouted.proofs.destination_at.Tie as tie
 use Rattle.unrouted.proofs.destination_at.Reads as reads
 use Rattle.unrouted.proofs.destination_at.Lts as lts
-use Rattle.tables.proofs.destinations.load.Reads as load-reads
+use Rattle.tables.proofs.destination_rows.load.Reads as load-reads
 
 load-requires : tie.Need-load-requires
 load-requires c κs = search needs

@@ -7,8 +7,8 @@ use Rattle.unrouted.proofs.drop_at.Reads as reads
 use Rattle.unrouted.proofs.drop_at.Lts as lts
 use Rattle.actions.proofs.settle.Reads as settle-reads
 use Rattle.records.proofs.blanks.unrouted_entry.Reads as unrouted-entry-reads
-use Rattle.tables.proofs.unrouted.load.Reads as load-reads
-use Rattle.tables.proofs.unrouted.remove_at.Reads as remove-at-reads
+use Rattle.tables.proofs.unrouted_rows.load.Reads as load-reads
+use Rattle.tables.proofs.unrouted_rows.remove_at.Reads as remove-at-reads
 
 load-requires : tie.Need-load-requires
 load-requires c κs = search needs

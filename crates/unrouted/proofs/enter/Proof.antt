@@ -4,7 +4,7 @@ use Rattle.unrouted.proofs.enter.Statement.{statement}
 use Rattle.unrouted.proofs.enter.Tie as tie
 use Rattle.unrouted.proofs.enter.Reads as reads
 use Rattle.unrouted.proofs.enter.Lts as lts
-use Rattle.tables.proofs.unrouted.insert.Reads as insert-reads
+use Rattle.tables.proofs.unrouted_rows.insert.Reads as insert-reads
 
 insert-requires : tie.Need-insert-requires
 insert-requires c κs = search needs

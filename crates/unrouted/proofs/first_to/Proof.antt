@@ -15,7 +15,7 @@ use Rattle.unrouted.proofs.first_to.Statement.{statement}
 use Rattle.unrouted.proofs.first_to.Tie as tie
 use Rattle.unrouted.proofs.first_to.Reads as reads
 use Rattle.unrouted.proofs.first_to.Lts as lts
-use Rattle.tables.proofs.unrouted.head.Reads as head-reads
+use Rattle.tables.proofs.unrouted_rows.head.Reads as head-reads
 use Rattle.unrouted.proofs.chosen.Reads as chosen-reads
 
 abbrev Inv-loop : tie.InvT-loop

@@ -4,7 +4,7 @@ use Rattle.unrouted.proofs.hold.Statement.{statement}
 use Rattle.unrouted.proofs.hold.Tie as tie
 use Rattle.unrouted.proofs.hold.Reads as reads
 use Rattle.unrouted.proofs.hold.Lts as lts
-use Rattle.tables.proofs.destinations.insert.Reads as insert-reads
+use Rattle.tables.proofs.destination_rows.insert.Reads as insert-reads
 use Rattle.unrouted.proofs.restarts.Reads as restarts-reads
 
 restarts-requires : tie.Need-restarts-requires

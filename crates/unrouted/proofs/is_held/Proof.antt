@@ -13,7 +13,7 @@ use Rattle.unrouted.proofs.is_held.Statement.{statement}
 use Rattle.unrouted.proofs.is_held.Tie as tie
 use Rattle.unrouted.proofs.is_held.Reads as reads
 use Rattle.unrouted.proofs.is_held.Lts as lts
-use Rattle.tables.proofs.destinations.find.Reads as find-reads
+use Rattle.tables.proofs.destination_rows.find.Reads as find-reads
 
 abbrev heldAt : ℕ → Destination → Bool
 heldAt d h = eqb (h .address) d

@@ -14,7 +14,7 @@ use Rattle.unrouted.proofs.next_wake.Tie as tie
 use Rattle.unrouted.proofs.next_wake.Reads as reads
 use Rattle.unrouted.proofs.next_wake.Lts as lts
 use Rattle.records.proofs.times.sooner_of.Reads as sooner-of-reads
-use Rattle.tables.proofs.unrouted.head.Reads as head-reads
+use Rattle.tables.proofs.unrouted_rows.head.Reads as head-reads
 
 abbrev Inv-loop : tie.InvT-loop
 Inv-loop w n wake₀ i₀ wake i = (i ≤ n) × (wake ≡ fold (λ (u : Unrouted) (o : Opt64). sooner (u .deadline) o) None64 (drop i (live unroutedTable w n)))

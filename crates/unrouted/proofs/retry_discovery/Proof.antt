@@ -17,9 +17,9 @@ use Rattle.unrouted.proofs.retry_discovery.Statement.{statement}
 use Rattle.unrouted.proofs.retry_discovery.Tie as tie
 use Rattle.unrouted.proofs.retry_discovery.Reads as reads
 use Rattle.unrouted.proofs.retry_discovery.Lts as lts
-use Rattle.tables.proofs.destinations.find.Reads as find-reads
-use Rattle.tables.proofs.destinations.load.Reads as load-reads
-use Rattle.tables.proofs.destinations.store.Reads as store-reads
+use Rattle.tables.proofs.destination_rows.find.Reads as find-reads
+use Rattle.tables.proofs.destination_rows.load.Reads as load-reads
+use Rattle.tables.proofs.destination_rows.store.Reads as store-reads
 use Rattle.unrouted.proofs.waits.Reads as waits-reads
 
 -- one restart less

@@ -12,7 +12,7 @@ use Rattle.unrouted.proofs.sweep.Statement.{statement}
 use Rattle.unrouted.proofs.sweep.Tie as tie
 use Rattle.unrouted.proofs.sweep.Reads as reads
 use Rattle.unrouted.proofs.sweep.Lts as lts
-use Rattle.tables.proofs.unrouted.head.Reads as head-reads
+use Rattle.tables.proofs.unrouted_rows.head.Reads as head-reads
 use Rattle.unrouted.proofs.chosen.Reads as chosen-reads
 use Rattle.unrouted.proofs.drop_at.Reads as drop-at-reads
 use Rattle.unrouted.proofs.failure.Reads as failure-reads

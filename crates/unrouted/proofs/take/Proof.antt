@@ -14,8 +14,8 @@ use Rattle.unrouted.proofs.take.Statement.{statement}
 use Rattle.unrouted.proofs.take.Tie as tie
 use Rattle.unrouted.proofs.take.Reads as reads
 use Rattle.unrouted.proofs.take.Lts as lts
-use Rattle.tables.proofs.unrouted.load.Reads as load-reads
-use Rattle.tables.proofs.unrouted.remove_at.Reads as remove-at-reads
+use Rattle.tables.proofs.unrouted_rows.load.Reads as load-reads
+use Rattle.tables.proofs.unrouted_rows.remove_at.Reads as remove-at-reads
 use Rattle.unrouted.proofs.first_to.Reads as first-to-reads
 
 first-to-requires : tie.Need-first-to-requires

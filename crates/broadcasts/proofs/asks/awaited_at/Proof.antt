@@ -6,7 +6,7 @@ use Rattle.broadcasts.proofs.asks.awaited_at.Tie as tie
 use Rattle.broadcasts.proofs.asks.awaited_at.Reads as reads
 use Rattle.broadcasts.proofs.asks.awaited_at.Lts as lts
 use Rattle.broadcasts.proofs.heads.awaited.Reads as awaited-reads
-use Rattle.tables.proofs.broadcasts.head.Reads as head-reads
+use Rattle.tables.proofs.broadcast_rows.head.Reads as head-reads
 
 head-requires : tie.Need-head-requires
 head-requires c κs = search needs

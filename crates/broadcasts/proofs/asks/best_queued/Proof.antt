@@ -13,7 +13,7 @@ use Rattle.broadcasts.proofs.asks.best_queued.Tie as tie
 use Rattle.broadcasts.proofs.asks.best_queued.Reads as reads
 use Rattle.broadcasts.proofs.asks.best_queued.Lts as lts
 use Rattle.broadcasts.proofs.heads.best.Reads as best-reads
-use Rattle.tables.proofs.broadcasts.head.Reads as head-reads
+use Rattle.tables.proofs.broadcast_rows.head.Reads as head-reads
 
 abbrev Inv-loop : tie.InvT-loop
 Inv-loop w n clock best₀ i₀ best i = (i ≤ n) × (best ≡ bestOf clock (drop i (live broadcastTable w n)))

@@ -9,8 +9,8 @@ use Rattle.broadcasts.proofs.asks.is_transmitting.Tie as tie
 use Rattle.broadcasts.proofs.asks.is_transmitting.Reads as reads
 use Rattle.broadcasts.proofs.asks.is_transmitting.Lts as lts
 use Rattle.broadcasts.proofs.turns.in_radio.Reads as in-radio-reads
-use Rattle.tables.proofs.broadcasts.find.Reads as find-reads
-use Rattle.tables.proofs.broadcasts.head.Reads as head-reads
+use Rattle.tables.proofs.broadcast_rows.find.Reads as find-reads
+use Rattle.tables.proofs.broadcast_rows.head.Reads as head-reads
 
 find-requires : tie.Need-find-requires
 find-requires c κs = search needs

@@ -13,7 +13,7 @@ use Rattle.broadcasts.proofs.asks.next_wake.Tie as tie
 use Rattle.broadcasts.proofs.asks.next_wake.Reads as reads
 use Rattle.broadcasts.proofs.asks.next_wake.Lts as lts
 use Rattle.broadcasts.proofs.heads.wake.Reads as wake-reads
-use Rattle.tables.proofs.broadcasts.head.Reads as head-reads
+use Rattle.tables.proofs.broadcast_rows.head.Reads as head-reads
 
 abbrev Inv-loop : tie.InvT-loop
 Inv-loop w n wake₀ i₀ wake i = (i ≤ n) × (wake ≡ wakeOf (drop i (live broadcastTable w n)))

@@ -14,7 +14,7 @@ use Rattle.broadcasts.proofs.moves.delivered.Lts as lts
 use Rattle.broadcasts.proofs.moves.first_keyed.Reads as first-keyed-reads
 use Rattle.broadcasts.proofs.moves.play.Reads as play-reads
 use Rattle.broadcasts.proofs.turns.delivered.Reads as delivered-reads
-use Rattle.tables.proofs.broadcasts.load.Reads as load-reads
+use Rattle.tables.proofs.broadcast_rows.load.Reads as load-reads
 
 first-keyed-requires : tie.Need-first-keyed-requires
 first-keyed-requires c κs = search needs

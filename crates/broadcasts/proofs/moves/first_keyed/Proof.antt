@@ -15,7 +15,7 @@ use Rattle.broadcasts.proofs.moves.first_keyed.Tie as tie
 use Rattle.broadcasts.proofs.moves.first_keyed.Reads as reads
 use Rattle.broadcasts.proofs.moves.first_keyed.Lts as lts
 use Rattle.broadcasts.proofs.heads.is_keyed.Reads as is-keyed-reads
-use Rattle.tables.proofs.broadcasts.schedule.Reads as schedule-reads
+use Rattle.tables.proofs.broadcast_rows.schedule.Reads as schedule-reads
 
 abbrev Inv-loop : tie.InvT-loop
 Inv-loop w n key i₀ i = (i ≤ n) × (placeFrom (keyed key) i (drop i (live broadcastTable w n)) ≡ placeAt (firstAt (keyed key) (live broadcastTable w n)))

@@ -11,8 +11,8 @@ use Rattle.broadcasts.proofs.moves.play.Lts as lts
 use Rattle.actions.proofs.hand_off.Reads as hand-off-reads
 use Rattle.actions.proofs.settle_again.Reads as settle-again-reads
 use Rattle.records.proofs.blanks.broadcast_entry.Reads as broadcast-entry-reads
-use Rattle.tables.proofs.broadcasts.remove_at.Reads as remove-at-reads
-use Rattle.tables.proofs.broadcasts.store.Reads as store-reads
+use Rattle.tables.proofs.broadcast_rows.remove_at.Reads as remove-at-reads
+use Rattle.tables.proofs.broadcast_rows.store.Reads as store-reads
 
 broadcast-entry-requires : tie.Need-broadcast-entry-requires
 broadcast-entry-requires c κs = search needs

@@ -12,8 +12,8 @@ use Rattle.broadcasts.proofs.moves.report.Lts as lts
 use Rattle.broadcasts.proofs.moves.play.Reads as play-reads
 use Rattle.broadcasts.proofs.turns.in_radio.Reads as in-radio-reads
 use Rattle.broadcasts.proofs.turns.report.Reads as report-reads
-use Rattle.tables.proofs.broadcasts.find.Reads as find-reads
-use Rattle.tables.proofs.broadcasts.load.Reads as load-reads
+use Rattle.tables.proofs.broadcast_rows.find.Reads as find-reads
+use Rattle.tables.proofs.broadcast_rows.load.Reads as load-reads
 
 find-requires : tie.Need-find-requires
 find-requires c κs = search needs

@@ -14,7 +14,7 @@ use Rattle.broadcasts.proofs.moves.tick.Reads as reads
 use Rattle.broadcasts.proofs.moves.tick.Lts as lts
 use Rattle.broadcasts.proofs.moves.tick_at.Reads as tick-at-reads
 use Rattle.broadcasts.proofs.heads.stirs.Reads as stirs-reads
-use Rattle.tables.proofs.broadcasts.head.Reads as head-reads
+use Rattle.tables.proofs.broadcast_rows.head.Reads as head-reads
 
 abbrev Inv-loop : tie.InvT-loop
 Inv-loop w₀ sends told₀ at clock n₀ m₀ i₀ w told n m i = Sweeping broadcastTable broadcastEntry (tickTurn clock) w₀ sends told₀ at w n told m i

@@ -8,7 +8,7 @@ use Rattle.broadcasts.proofs.moves.tick_at.Reads as reads
 use Rattle.broadcasts.proofs.moves.tick_at.Lts as lts
 use Rattle.broadcasts.proofs.moves.play.Reads as play-reads
 use Rattle.broadcasts.proofs.turns.tick.Reads as tick-reads
-use Rattle.tables.proofs.broadcasts.load.Reads as load-reads
+use Rattle.tables.proofs.broadcast_rows.load.Reads as load-reads
 
 load-requires : tie.Need-load-requires
 load-requires c κs = search needs

@@ -14,10 +14,10 @@ use Rattle.sends.proofs.asks.fresh.Statement.{statement}
 use Rattle.sends.proofs.asks.fresh.Tie as tie
 use Rattle.sends.proofs.asks.fresh.Reads as reads
 use Rattle.sends.proofs.asks.fresh.Lts as lts
-use Rattle.tables.proofs.broadcasts.fresh.Reads as broadcasts-fresh-reads
-use Rattle.tables.proofs.destinations.fresh.Reads as destinations-fresh-reads
-use Rattle.tables.proofs.unicasts.fresh.Reads as unicasts-fresh-reads
-use Rattle.tables.proofs.unrouted.fresh.Reads as unrouted-fresh-reads
+use Rattle.tables.proofs.broadcast_rows.fresh.Reads as broadcasts-fresh-reads
+use Rattle.tables.proofs.destination_rows.fresh.Reads as destinations-fresh-reads
+use Rattle.tables.proofs.unicast_rows.fresh.Reads as unicasts-fresh-reads
+use Rattle.tables.proofs.unrouted_rows.fresh.Reads as unrouted-fresh-reads
 
 -- the tables made of four with no record
 abbrev made : ℕ → List ℕ → List ℕ → List ℕ → List ℕ → Sends

@@ -5,7 +5,7 @@ use Rattle.sends.proofs.lists.abandon.Statement.{statement}
 use Rattle.sends.proofs.lists.abandon.Tie as tie
 use Rattle.sends.proofs.lists.abandon.Reads as reads
 use Rattle.sends.proofs.lists.abandon.Lts as lts
-use Rattle.calls.proofs.ends.abandon.Reads as abandon-reads
+use Rattle.lent.proofs.ends.abandon.Reads as abandon-reads
 
 abandon-requires : tie.Need-abandon-requires
 abandon-requires c κs = search needs

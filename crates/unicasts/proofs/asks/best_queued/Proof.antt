@@ -13,7 +13,7 @@ use Rattle.unicasts.proofs.asks.best_queued.Statement.{statement}
 use Rattle.unicasts.proofs.asks.best_queued.Tie as tie
 use Rattle.unicasts.proofs.asks.best_queued.Reads as reads
 use Rattle.unicasts.proofs.asks.best_queued.Lts as lts
-use Rattle.tables.proofs.unicasts.head.Reads as head-reads
+use Rattle.tables.proofs.unicast_rows.head.Reads as head-reads
 use Rattle.unicasts.proofs.rules.best_with.Reads as best-with-reads
 
 abbrev Inv-loop : tie.InvT-loop

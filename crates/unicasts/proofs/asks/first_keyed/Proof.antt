@@ -13,7 +13,7 @@ use Rattle.unicasts.proofs.asks.first_keyed.Statement.{statement}
 use Rattle.unicasts.proofs.asks.first_keyed.Tie as tie
 use Rattle.unicasts.proofs.asks.first_keyed.Reads as reads
 use Rattle.unicasts.proofs.asks.first_keyed.Lts as lts
-use Rattle.tables.proofs.unicasts.confirm.Reads as confirm-reads
+use Rattle.tables.proofs.unicast_rows.confirm.Reads as confirm-reads
 use Rattle.unicasts.proofs.rules.is_keyed.Reads as is-keyed-reads
 
 abbrev Inv-loop : tie.InvT-loop

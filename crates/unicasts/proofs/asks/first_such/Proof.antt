@@ -13,7 +13,7 @@ use Rattle.unicasts.proofs.asks.first_such.Statement.{statement}
 use Rattle.unicasts.proofs.asks.first_such.Tie as tie
 use Rattle.unicasts.proofs.asks.first_such.Reads as reads
 use Rattle.unicasts.proofs.asks.first_such.Lts as lts
-use Rattle.tables.proofs.unicasts.head.Reads as head-reads
+use Rattle.tables.proofs.unicast_rows.head.Reads as head-reads
 use Rattle.unicasts.proofs.rules.is_sought.Reads as is-sought-reads
 
 abbrev Inv-loop : tie.InvT-loop

@@ -13,7 +13,7 @@ use Rattle.unicasts.proofs.asks.next_wake.Statement.{statement}
 use Rattle.unicasts.proofs.asks.next_wake.Tie as tie
 use Rattle.unicasts.proofs.asks.next_wake.Reads as reads
 use Rattle.unicasts.proofs.asks.next_wake.Lts as lts
-use Rattle.tables.proofs.unicasts.head.Reads as head-reads
+use Rattle.tables.proofs.unicast_rows.head.Reads as head-reads
 use Rattle.unicasts.proofs.rules.wake_with.Reads as wake-with-reads
 
 abbrev Inv-loop : tie.InvT-loop

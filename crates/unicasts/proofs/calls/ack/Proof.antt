@@ -8,7 +8,7 @@ use Rattle.unicasts.proofs.calls.ack.Statement.{statement}
 use Rattle.unicasts.proofs.calls.ack.Tie as tie
 use Rattle.unicasts.proofs.calls.ack.Reads as reads
 use Rattle.unicasts.proofs.calls.ack.Lts as lts
-use Rattle.tables.proofs.unicasts.load.Reads as load-reads
+use Rattle.tables.proofs.unicast_rows.load.Reads as load-reads
 use Rattle.unicasts.proofs.asks.first_keyed.Reads as first-keyed-reads
 use Rattle.unicasts.proofs.calls.play.Reads as play-reads
 use Rattle.unicasts.proofs.rules.ack_turn.Reads as ack-turn-reads

@@ -10,8 +10,8 @@ use Rattle.unicasts.proofs.calls.cancel.Statement.{statement}
 use Rattle.unicasts.proofs.calls.cancel.Tie as tie
 use Rattle.unicasts.proofs.calls.cancel.Reads as reads
 use Rattle.unicasts.proofs.calls.cancel.Lts as lts
-use Rattle.tables.proofs.unicasts.find.Reads as find-reads
-use Rattle.tables.proofs.unicasts.load.Reads as load-reads
+use Rattle.tables.proofs.unicast_rows.find.Reads as find-reads
+use Rattle.tables.proofs.unicast_rows.load.Reads as load-reads
 use Rattle.unicasts.proofs.calls.play.Reads as play-reads
 use Rattle.unicasts.proofs.rules.cancel_turn.Reads as cancel-turn-reads
 use Rattle.unicasts.proofs.rules.is_sending.Reads as is-sending-reads

@@ -11,9 +11,9 @@ use Rattle.unicasts.proofs.calls.dequeue.Statement.{statement}
 use Rattle.unicasts.proofs.calls.dequeue.Tie as tie
 use Rattle.unicasts.proofs.calls.dequeue.Reads as reads
 use Rattle.unicasts.proofs.calls.dequeue.Lts as lts
-use Rattle.tables.proofs.unicasts.find.Reads as find-reads
-use Rattle.tables.proofs.unicasts.load.Reads as load-reads
-use Rattle.tables.proofs.unicasts.store.Reads as store-reads
+use Rattle.tables.proofs.unicast_rows.find.Reads as find-reads
+use Rattle.tables.proofs.unicast_rows.load.Reads as load-reads
+use Rattle.tables.proofs.unicast_rows.store.Reads as store-reads
 use Rattle.unicasts.proofs.asks.frame_pending.Reads as frame-pending-reads
 use Rattle.unicasts.proofs.rules.staged.Reads as staged-reads
 

@@ -7,8 +7,8 @@ use Rattle.unicasts.proofs.calls.finish.Reads as reads
 use Rattle.unicasts.proofs.calls.finish.Lts as lts
 use Rattle.actions.proofs.settle_again.Reads as settle-again-reads
 use Rattle.records.proofs.blanks.unicast_entry.Reads as unicast-entry-reads
-use Rattle.tables.proofs.unicasts.load.Reads as load-reads
-use Rattle.tables.proofs.unicasts.remove_at.Reads as remove-at-reads
+use Rattle.tables.proofs.unicast_rows.load.Reads as load-reads
+use Rattle.tables.proofs.unicast_rows.remove_at.Reads as remove-at-reads
 
 load-requires : tie.Need-load-requires
 load-requires c κs = search needs

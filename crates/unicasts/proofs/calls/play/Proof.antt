@@ -9,7 +9,7 @@ use Rattle.unicasts.proofs.calls.play.Reads as reads
 use Rattle.unicasts.proofs.calls.play.Lts as lts
 use Rattle.actions.proofs.hand_off.Reads as hand-off-reads
 use Rattle.records.proofs.blanks.unicast_entry.Reads as unicast-entry-reads
-use Rattle.tables.proofs.unicasts.store.Reads as store-reads
+use Rattle.tables.proofs.unicast_rows.store.Reads as store-reads
 use Rattle.unicasts.proofs.calls.finish.Reads as finish-reads
 
 enum-known-t : tie.Need-enum-known-t

@@ -7,8 +7,8 @@ use Rattle.unicasts.proofs.calls.poll.Statement.{statement}
 use Rattle.unicasts.proofs.calls.poll.Tie as tie
 use Rattle.unicasts.proofs.calls.poll.Reads as reads
 use Rattle.unicasts.proofs.calls.poll.Lts as lts
-use Rattle.tables.proofs.unicasts.load.Reads as load-reads
-use Rattle.tables.proofs.unicasts.store.Reads as store-reads
+use Rattle.tables.proofs.unicast_rows.load.Reads as load-reads
+use Rattle.tables.proofs.unicast_rows.store.Reads as store-reads
 use Rattle.unicasts.proofs.asks.first_such.Reads as first-such-reads
 use Rattle.unicasts.proofs.rules.polled.Reads as polled-reads
 

@@ -11,8 +11,8 @@ use Rattle.unicasts.proofs.calls.report.Statement.{statement}
 use Rattle.unicasts.proofs.calls.report.Tie as tie
 use Rattle.unicasts.proofs.calls.report.Reads as reads
 use Rattle.unicasts.proofs.calls.report.Lts as lts
-use Rattle.tables.proofs.unicasts.find.Reads as find-reads
-use Rattle.tables.proofs.unicasts.load.Reads as load-reads
+use Rattle.tables.proofs.unicast_rows.find.Reads as find-reads
+use Rattle.tables.proofs.unicast_rows.load.Reads as load-reads
 use Rattle.unicasts.proofs.calls.play.Reads as play-reads
 use Rattle.unicasts.proofs.rules.is_sending.Reads as is-sending-reads
 use Rattle.unicasts.proofs.rules.report_turn.Reads as report-turn-reads

@@ -8,8 +8,8 @@ use Rattle.unicasts.proofs.calls.requeue.Statement.{statement}
 use Rattle.unicasts.proofs.calls.requeue.Tie as tie
 use Rattle.unicasts.proofs.calls.requeue.Reads as reads
 use Rattle.unicasts.proofs.calls.requeue.Lts as lts
-use Rattle.tables.proofs.unicasts.load.Reads as load-reads
-use Rattle.tables.proofs.unicasts.store.Reads as store-reads
+use Rattle.tables.proofs.unicast_rows.load.Reads as load-reads
+use Rattle.tables.proofs.unicast_rows.store.Reads as store-reads
 use Rattle.unicasts.proofs.rules.staged.Reads as staged-reads
 
 load-requires : tie.Need-load-requires

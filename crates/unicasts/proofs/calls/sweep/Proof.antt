@@ -12,7 +12,7 @@ use Rattle.unicasts.proofs.calls.sweep.Statement.{statement}
 use Rattle.unicasts.proofs.calls.sweep.Tie as tie
 use Rattle.unicasts.proofs.calls.sweep.Reads as reads
 use Rattle.unicasts.proofs.calls.sweep.Lts as lts
-use Rattle.tables.proofs.unicasts.head.Reads as head-reads
+use Rattle.tables.proofs.unicast_rows.head.Reads as head-reads
 use Rattle.unicasts.proofs.calls.finish.Reads as finish-reads
 use Rattle.unicasts.proofs.calls.requeue.Reads as requeue-reads
 use Rattle.unicasts.proofs.rules.due_of.Reads as due-of-reads

@@ -12,7 +12,7 @@ use Rattle.unicasts.proofs.sets.next_member.Statement.{statement}
 use Rattle.unicasts.proofs.sets.next_member.Tie as tie
 use Rattle.unicasts.proofs.sets.next_member.Reads as reads
 use Rattle.unicasts.proofs.sets.next_member.Lts as lts
-use Rattle.tables.proofs.unicasts.head.Reads as head-reads
+use Rattle.tables.proofs.unicast_rows.head.Reads as head-reads
 use Rattle.unicasts.proofs.sets.least_with.Reads as least-with-reads
 use Rattle.unicasts.proofs.sets.member_of.Reads as member-of-reads
 
