@@ -12,9 +12,10 @@ use Rattle.model.specs.Calls.{abandoned, emptied}
 use Rattle.model.specs.Sound.{SoundModel, Sound, Leaving}
 use Rattle.model.specs.declared.Counts.{Counts}
 use Rattle.model.specs.declared.Did.{Did}
+use Rattle.model.specs.declared.Answered.{Answered}
 use Rattle.model.specs.declared.Abandoned.{Abandoned}
 use Rattle.lent.specs.Parts.{AbandonedAll}
-use Rattle.sends.specs.Lists.{emptiedOf, Left}
+use Rattle.sends.specs.Lists.{answeredBy, emptiedOf, Left}
 
 -- words and counts that hold the lists of a model are its tables by value, and sound where it is
 module _ {c : Counts} {m : Model} {ws vs ds bs : List ℕ} (next : c .«next_id» ≡ m .next) (u : Holds unicastTable ws (c .unicasts) (m .unicasts))
@@ -38,17 +39,16 @@ module _ {c : Counts} {m : Model} {ws vs ds bs : List ℕ} (next : c .«next_id�
   }
 
 -- a call
-module _ {e : Effect} {buf ws vs ds bs buf′ : List ℕ} {r : Did} (h : Does e buf ws vs ds bs buf′ r) where
-  pub is-answered : record { sends = record { counts = r .counts; unicasts = ws; unrouted = vs; held = ds; broadcasts = bs }; answer = r .answer; told = r .told } ≡ answeredOf e
-  is-answered = λ k. record {
+module _ {e : Effect} {buf ws vs ds bs buf′ : List ℕ} {x : Did} (h : Does e buf ws vs ds bs buf′ x) {r : Answered} (back : r ≡ answeredBy x ws vs ds bs) where
+  pub is-answered : r ≡ answeredOf e
+  is-answered = back ∙ λ k. record {
     sends = holds-sends (h .next) (h .unicasts) (h .unrouted) (h .held) (h .broadcasts) k;
     answer = h .answer k;
     told = (h .tells .next ∙ zero-add (length (e .actions))) k;
   }
 
-  pub leaves-sound : SoundModel (e .model)
-      → Leaving e buf buf′ (record { sends = record { counts = r .counts; unicasts = ws; unrouted = vs; held = ds; broadcasts = bs }; answer = r .answer; told = r .told })
-  leaves-sound s = record { tells = h .tells; sound = holds-sound (h .next) (h .unicasts) (h .unrouted) (h .held) (h .broadcasts) s }
+  pub leaves-sound : SoundModel (e .model) → Leaving e buf buf′ r
+  leaves-sound s = rw back (record { tells = h .tells; sound = holds-sound (h .next) (h .unicasts) (h .unrouted) (h .held) (h .broadcasts) s })
 
 -- an abandon
 module _ {m : Model} {list ws vs ds bs list′ : List ℕ} {r : Abandoned} (h : AbandonedAll m list ws vs ds bs list′ r) where

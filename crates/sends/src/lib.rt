@@ -1,6 +1,7 @@
 // The calls over the send tables by value: each takes the tables and gives them back with its answer, its actions told into a lent
 // buffer. No logic: each lends its tables to the call of `lent` with its name.
 use model::Answered;
+use model::Did;
 use model::Lender;
 use model::NewBroadcast;
 use model::NewUnicast;
@@ -17,9 +18,29 @@ ghost use mathlib.Core.Path.{_≡_};
 ghost use Rattle.model.specs.Model.{modelOf, answeredOf};
 ghost use Rattle.model.specs.Calls.{enqueueUnicastOf, enqueueCopyOf, enqueueUnroutedOf, enqueueBroadcastOf, dequeueOf, transmittedOf, pollOf, ackOf, retryOf, failOf, routeOf, deliveredOf, dropOf, cancelOf, tickOf};
 ghost use Rattle.model.specs.Sound.{Sound, Leaving};
+ghost use Rattle.sends.specs.Lists.{answeredBy};
 
 pub mod asks;
 pub mod lists;
+
+// What a call on lent tables gave back, with the tables.
+fn answered(x: Did, w: [u64; 320], v: [u64; 112], d: [u64; 32], b: [u64; 112]) -> Answered
+    ensures { λ r. ⌜ r ≡ answeredBy x w v d b ⌝ }
+{
+    let n = x.counts;
+    let a = x.answer;
+    Answered {
+        sends: Sends {
+            counts: n,
+            unicasts: w,
+            unrouted: v,
+            held: d,
+            broadcasts: b,
+        },
+        answer: a,
+        told: x.told,
+    }
+}
 
 // A unicast with a known next hop: refused with 1, 2 or 4, or its id is issued.
 pub fn enqueue_unicast(
@@ -49,19 +70,7 @@ pub fn enqueue_unicast(
         u,
         clock,
     );
-    let n = x.counts;
-    let a = x.answer;
-    Answered {
-        sends: Sends {
-            counts: n,
-            unicasts: w,
-            unrouted: v,
-            held: d,
-            broadcasts: b,
-        },
-        answer: a,
-        told: x.told,
-    }
+    answered(x, w, v, d, b)
 }
 
 // A broadcast's copy for one sleepy child; it may name any id.
@@ -94,19 +103,7 @@ pub fn enqueue_broadcast_copy(
         u,
         clock,
     );
-    let n = x.counts;
-    let a = x.answer;
-    Answered {
-        sends: Sends {
-            counts: n,
-            unicasts: w,
-            unrouted: v,
-            held: d,
-            broadcasts: b,
-        },
-        answer: a,
-        told: x.told,
-    }
+    answered(x, w, v, d, b)
 }
 
 // A unicast with no route yet, held until its destination's discovery ends. The caller starts that discovery if the destination
@@ -138,19 +135,7 @@ pub fn enqueue_unrouted_unicast(
         u,
         clock,
     );
-    let n = x.counts;
-    let a = x.answer;
-    Answered {
-        sends: Sends {
-            counts: n,
-            unicasts: w,
-            unrouted: v,
-            held: d,
-            broadcasts: b,
-        },
-        answer: a,
-        told: x.told,
-    }
+    answered(x, w, v, d, b)
 }
 
 // A broadcast, sent once or repeated on its schedule: refused with 1, 3, 2 or 4, or its id is issued.
@@ -181,19 +166,7 @@ pub fn enqueue_broadcast(
         u,
         clock,
     );
-    let n = x.counts;
-    let a = x.answer;
-    Answered {
-        sends: Sends {
-            counts: n,
-            unicasts: w,
-            unrouted: v,
-            held: d,
-            broadcasts: b,
-        },
-        answer: a,
-        told: x.told,
-    }
+    answered(x, w, v, d, b)
 }
 
 // Lends the unexpired queued send of highest priority, and of these the oldest, to the radio; `transmitted` must report on it.
@@ -208,19 +181,7 @@ pub fn dequeue(s: Sends, told: &mut [u64; 560], clock: u64) -> Answered
     let mut d = s.held;
     let mut b = s.broadcasts;
     let x = lent::radio::dequeue(c, &mut w, &mut v, &mut d, &mut b, told, clock);
-    let n = x.counts;
-    let a = x.answer;
-    Answered {
-        sends: Sends {
-            counts: n,
-            unicasts: w,
-            unrouted: v,
-            held: d,
-            broadcasts: b,
-        },
-        answer: a,
-        told: x.told,
-    }
+    answered(x, w, v, d, b)
 }
 
 // The radio's report on a lent send: refused with 1, 5, 7 or 8. `from` names the table that lent it; `delay` is how long a failed
@@ -258,19 +219,7 @@ pub fn transmitted(
         clock,
         delay,
     );
-    let n = x.counts;
-    let a = x.answer;
-    Answered {
-        sends: Sends {
-            counts: n,
-            unicasts: w,
-            unrouted: v,
-            held: d,
-            broadcasts: b,
-        },
-        answer: a,
-        told: x.told,
-    }
+    answered(x, w, v, d, b)
 }
 
 // A device polls, under either address: its oldest frame is queued ahead of everything else. Answers whether there was one.
@@ -285,19 +234,7 @@ pub fn poll(s: Sends, told: &mut [u64; 560], eui: Opt64, nwk: Opt16, clock: u64)
     let mut d = s.held;
     let mut b = s.broadcasts;
     let x = lent::devices::poll(c, &mut w, &mut v, &mut d, &mut b, told, eui, nwk, clock);
-    let n = x.counts;
-    let a = x.answer;
-    Answered {
-        sends: Sends {
-            counts: n,
-            unicasts: w,
-            unrouted: v,
-            held: d,
-            broadcasts: b,
-        },
-        answer: a,
-        told: x.told,
-    }
+    answered(x, w, v, d, b)
 }
 
 // An end-to-end ack came: it goes to the oldest unicast with that key.
@@ -312,19 +249,7 @@ pub fn aps_ack_received(s: Sends, told: &mut [u64; 560], key: AckKey) -> Answere
     let mut d = s.held;
     let mut b = s.broadcasts;
     let x = lent::devices::aps_ack_received(c, &mut w, &mut v, &mut d, &mut b, told, key);
-    let n = x.counts;
-    let a = x.answer;
-    Answered {
-        sends: Sends {
-            counts: n,
-            unicasts: w,
-            unrouted: v,
-            held: d,
-            broadcasts: b,
-        },
-        answer: a,
-        told: x.told,
-    }
+    answered(x, w, v, d, b)
 }
 
 // A destination's discovery lapsed: answers whether the caller is to start it again. Refused with 9 where it is not held.
@@ -339,19 +264,7 @@ pub fn retry_discovery(s: Sends, told: &mut [u64; 560], destination: u16) -> Ans
     let mut d = s.held;
     let mut b = s.broadcasts;
     let x = lent::routes::retry_discovery(c, &mut w, &mut v, &mut d, &mut b, told, destination);
-    let n = x.counts;
-    let a = x.answer;
-    Answered {
-        sends: Sends {
-            counts: n,
-            unicasts: w,
-            unrouted: v,
-            held: d,
-            broadcasts: b,
-        },
-        answer: a,
-        told: x.told,
-    }
+    answered(x, w, v, d, b)
 }
 
 // A destination's discovery ended without a route: its sends fail.
@@ -366,19 +279,7 @@ pub fn fail_unrouted(s: Sends, told: &mut [u64; 560], destination: u16) -> Answe
     let mut d = s.held;
     let mut b = s.broadcasts;
     let x = lent::routes::fail_unrouted(c, &mut w, &mut v, &mut d, &mut b, told, destination);
-    let n = x.counts;
-    let a = x.answer;
-    Answered {
-        sends: Sends {
-            counts: n,
-            unicasts: w,
-            unrouted: v,
-            held: d,
-            broadcasts: b,
-        },
-        answer: a,
-        told: x.told,
-    }
+    answered(x, w, v, d, b)
 }
 
 // A route to a destination is known: its sends, in id order, have the first n results. Refused with 1, 10 or 4.
@@ -413,19 +314,7 @@ pub fn route_unicasts(
         results,
         n,
     );
-    let n = x.counts;
-    let a = x.answer;
-    Answered {
-        sends: Sends {
-            counts: n,
-            unicasts: w,
-            unrouted: v,
-            held: d,
-            broadcasts: b,
-        },
-        answer: a,
-        told: x.told,
-    }
+    answered(x, w, v, d, b)
 }
 
 // The quorum for a broadcast was heard: it goes to the oldest with that key.
@@ -440,19 +329,7 @@ pub fn broadcast_delivered(s: Sends, told: &mut [u64; 560], key: QuorumKey) -> A
     let mut d = s.held;
     let mut b = s.broadcasts;
     let x = lent::devices::broadcast_delivered(c, &mut w, &mut v, &mut d, &mut b, told, key);
-    let n = x.counts;
-    let a = x.answer;
-    Answered {
-        sends: Sends {
-            counts: n,
-            unicasts: w,
-            unrouted: v,
-            held: d,
-            broadcasts: b,
-        },
-        answer: a,
-        told: x.told,
-    }
+    answered(x, w, v, d, b)
 }
 
 // A device is no child any more: what awaits its poll fails.
@@ -476,19 +353,7 @@ pub fn drop_indirect_unicasts(s: Sends, told: &mut [u64; 560], eui: Opt64, nwk: 
         eui,
         nwk,
     );
-    let n = x.counts;
-    let a = x.answer;
-    Answered {
-        sends: Sends {
-            counts: n,
-            unicasts: w,
-            unrouted: v,
-            held: d,
-            broadcasts: b,
-        },
-        answer: a,
-        told: x.told,
-    }
+    answered(x, w, v, d, b)
 }
 
 // A send is cancelled, a broadcast with its copies: refused with 5 where no table has it, with 6 where it or a copy is in the
@@ -504,19 +369,7 @@ pub fn cancel(s: Sends, told: &mut [u64; 560], id: u32) -> Answered
     let mut d = s.held;
     let mut b = s.broadcasts;
     let x = lent::ends::cancel(c, &mut w, &mut v, &mut d, &mut b, told, id);
-    let n = x.counts;
-    let a = x.answer;
-    Answered {
-        sends: Sends {
-            counts: n,
-            unicasts: w,
-            unrouted: v,
-            held: d,
-            broadcasts: b,
-        },
-        answer: a,
-        told: x.told,
-    }
+    answered(x, w, v, d, b)
 }
 
 // The timer pass: what is due is queued again, and what is past its deadline fails.
@@ -531,17 +384,5 @@ pub fn tick(s: Sends, told: &mut [u64; 560], clock: u64) -> Answered
     let mut d = s.held;
     let mut b = s.broadcasts;
     let x = lent::ends::tick(c, &mut w, &mut v, &mut d, &mut b, told, clock);
-    let n = x.counts;
-    let a = x.answer;
-    Answered {
-        sends: Sends {
-            counts: n,
-            unicasts: w,
-            unrouted: v,
-            held: d,
-            broadcasts: b,
-        },
-        answer: a,
-        told: x.told,
-    }
+    answered(x, w, v, d, b)
 }
