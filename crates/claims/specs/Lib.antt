@@ -1,0 +1,4 @@
+pub mod Ledger
+pub mod CausesTypes
+pub mod Causes
+pub mod Bell

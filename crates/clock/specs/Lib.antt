@@ -1,0 +1,4 @@
+pub mod Types
+pub mod Clock
+pub mod Lent
+pub mod Claims
