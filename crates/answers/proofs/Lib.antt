@@ -1,0 +1,4 @@
+pub mod Examples
+pub mod Writings
+pub mod Sizes
+pub mod Lists

@@ -1,0 +1,4 @@
+pub mod Types
+pub mod Bytes
+pub mod Items
+pub mod Lengths
