@@ -6,7 +6,7 @@ use records::SendFailure;
 use records::Verdict;
 ghost use mathlib.Core.Path.{_≡_};
 ghost use Prim.Native.Nat.{_+_, _%_, _<_, _≤_};
-ghost use mathlib.Core.List.{List, [], _∷_};
+ghost use mathlib.Core.List.{[], _∷_};
 ghost use Rattle.codes.specs.Codes.{addressFrom};
 ghost use Rattle.rows.specs.Moves.{settling};
 ghost use Rattle.records.specs.declared.Action.the-variants.{HandedOff, Settled};

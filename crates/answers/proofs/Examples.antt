@@ -2,11 +2,11 @@
 use Prim.Native.Nat.{ℕ}
 use mathlib.Core.Path.{_≡_, refl}
 use mathlib.Core.Bool.{true}
-use mathlib.Core.List.{List, [], _∷_}
+use mathlib.Core.List.{[], _∷_}
 use Rattle.records.specs.declared.Address.the-variants.{Extended}
 use Rattle.records.specs.declared.SendFailure.the-variants.{IndirectExpired}
 use Rattle.records.specs.declared.Verdict.the-variants.{Failure, Code}
-use Rattle.answers.specs.Types.{Entry, None16, Some16, Unicasting, Broadcasting, Item, Done, Id, Settlement, Flight, End}
+use Rattle.answers.specs.Types.{Entry, None16, Some16, Unicasting, Broadcasting, Done, Id, Settlement, Flight, End}
 use Rattle.answers.specs.Items.{itemBytes, itemsBytes}
 
 -- 82 00 00 00 00 81 85 00 00 00 00 07 00 00 00 01 00 00 00 81 8D 00 2C 00 00 00

@@ -5,7 +5,7 @@ use mathlib.Core.Path.{_≡_, refl}
 use lib.ListN.{length, getD}
 use Rattle.answers.specs.Types.{Opt16, None16, Some16, Verdict, Entry, Action, Transmit, Unicasting, Broadcasting, Item, Refused, Done, Id, Handoff, Settlement, Flight, YesNo, Time, ShortAddress, ExtendedAddress, Key, Abandonment, DestinationAddress, End}
 use Rattle.answers.specs.Items.{settledBytes, flightBytes, itemBytes, actionItem, actionBytes}
-use Rattle.answers.specs.Lengths.{answerLength}
+use Rattle.events.specs.Kinds.{bodyOf}
 
 pub settled-long : (e : Entry) (v : Verdict) (hop : Opt16) → length (settledBytes e v hop) ≡ 28
 settled-long e v None16 = refl
@@ -19,7 +19,8 @@ flight-long id frame Broadcasting = refl
 abbrev pub kindOf : Item → ℕ
 kindOf i = getD (itemBytes i) 0 0
 
-pub item-long : (i : Item) → length (itemBytes i) ≡ 1 + answerLength (kindOf i)
+pub item-long : (i : Item) → length (itemBytes i) ≡ 1 + bodyOf (kindOf i)
+unfolding bodyOf
 item-long (Refused r) = refl
 item-long Done = refl
 item-long (Id n) = refl

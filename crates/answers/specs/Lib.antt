@@ -1,4 +1,3 @@
 pub mod Types
 pub mod Bytes
 pub mod Items
-pub mod Lengths

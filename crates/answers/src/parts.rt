@@ -5,10 +5,9 @@ use records::Entry;
 use records::Opt16;
 use records::QuorumKey;
 use records::Verdict;
-ghost use mathlib.Core.List.{[], _∷_, _++_};
 ghost use Prim.Native.Nat.{_+_, _≤_};
 ghost use lib.ListN.{length};
-ghost use Rattle.answers.specs.Bytes.{leBytes, Written};
+ghost use Rattle.answers.specs.Bytes.{Written};
 ghost use Rattle.answers.specs.Items.{addressBytes, hopBytes, verdictBytes, transmitBytes, settledBytes, flightBytes, keyBytes, endBytes};
 
 // A tag and eight bytes.

@@ -13,7 +13,7 @@ use records::Schedule;
 use records::Stage;
 ghost use mathlib.Core.Path.{_≡_};
 ghost use Rattle.records.specs.Pick.{bit};
-ghost use Rattle.codes.specs.Codes.{opt8Word, opt8From, opt16Word, opt16From, opt32Word, opt32From, priorityFrom, addressTag, addressWord, addressFrom, stageTag, stageTime, stageFrom, copyTag, copyFrom, scheduleTag, scheduleNext, scheduleFrom, quorumWord, quorumFrom, ackKeyFrom, confirmFrom, Coded, CodedAddress, CodedCopies, CodedSchedule, CodedConfirm};
+ghost use Rattle.codes.specs.Codes.{opt8Word, opt8From, opt16Word, opt16From, opt32Word, opt32From, priorityFrom, addressTag, addressFrom, stageTag, stageTime, stageFrom, copyTag, copyFrom, scheduleTag, scheduleNext, scheduleFrom, quorumWord, quorumFrom, ackKeyFrom, confirmFrom, Coded, CodedAddress, CodedCopies, CodedSchedule, CodedConfirm};
 ghost use Rattle.codes.specs.Types.{ApsAck};
 
 // ---- optional numbers: 0 where absent, else one more

@@ -1,31 +1,27 @@
 -- What bars a cancel, and whether a search found a record. Assumes nothing.
-use Prim.Native.Nat.{ℕ, _+_, _*_, _≤_}
-use native.Mathlib.Omega.{arith}
-use mathlib.Core.Path.{_≡_, refl, sym, ap, subst, _∙_}
+use Prim.Native.Nat.{ℕ}
+use mathlib.Core.Path.{_≡_, refl, sym, subst, _∙_}
 use mathlib.Core.Bool.{Bool, true, false, _||_}
-use mathlib.Core.List.{List, [], _∷_}
+use mathlib.Core.List.{List}
 use mathlib.Core.Option.{Option, none, some}
 use lib.Dec.{eqb}
 use Rattle.records.specs.Pick.{pick}
-use Rattle.records.specs.Records.{broadcastId, unicastEntry, broadcastEntry}
 use Rattle.records.specs.declared.Refusal.the-variants.{InTheRadio}
 use Rattle.rows.specs.declared.Place.{Place}
 use Rattle.rows.specs.declared.Place.the-variants.{Nowhere, Here}
-use Rattle.rows.specs.Lists.{lookup, findBy, placeAt}
-use Rattle.rows.specs.Tables.{live}
-use Rattle.rows.specs.Moves.{Turn, firstOf, anyOf, hasId}
+use Rattle.rows.specs.Lists.{findBy, placeAt}
+use Rattle.rows.specs.Moves.{Turn, anyOf}
 use Rattle.rows.specs.Moves.Turn.{Keeps}
 use Rattle.rows.proofs.Promises.{here-some, nowhere-none, find-first, first-found, first-missed}
-use Rattle.tables.specs.Layouts.{unicastTable, broadcastTable}
 use Rattle.unicasts.specs.Rules.{sentCopy}
 use Rattle.broadcasts.specs.declared.Outcome as casts
 use Rattle.broadcasts.specs.Calls.{Answered}
 use Rattle.broadcasts.specs.Rules.{inRadio, cancelBar}
-use Rattle.model.specs.Model.{Model, Effect, lentModel, SoundTables, Does}
-use Rattle.model.specs.Calls.{unless, turnUnicast, turnBroadcast, castBar}
-use Rattle.lent.specs.Types.{Unicast, Broadcast, Accepted, Refusal, Counts, Did}
-use Rattle.lent.specs.Parts.{deniedBy, withUnicastCount, withBroadcastCount}
-use Rattle.lent.proofs.Doings.{does-deny, done-unicasts, done-broadcasts}
+use Rattle.model.specs.Model.{Effect, lentModel, SoundTables, Does}
+use Rattle.model.specs.Calls.{unless, castBar}
+use Rattle.lent.specs.Types.{Unicast, Broadcast, Refusal, Counts, Did}
+use Rattle.lent.specs.Parts.{deniedBy}
+use Rattle.lent.proofs.Doings.{does-deny}
 
 module _ {c : Counts} {ws vs ds bs : List ℕ} (s : SoundTables c ws vs ds bs) where
   -- something bars it: every lent word stays

@@ -1,15 +1,13 @@
 -- How what a call on one table ensures becomes what the call on all of them ensures: the other tables stay. Assumes nothing.
 use Prim.Native.Nat.{ℕ}
-use mathlib.Core.Path.{_≡_, refl, sym, ap, subst, _∙_}
-use mathlib.Core.Bool.{Bool, true, false}
-use mathlib.Core.List.{List, []}
-use Rattle.records.specs.Pick.{pick}
-use Rattle.rows.specs.Tables.{live, Held, Holds}
+use mathlib.Core.Path.{_≡_, refl, sym, ap, subst}
+use mathlib.Core.List.{List}
+use Rattle.rows.specs.Tables.{Holds}
 use Rattle.rows.proofs.Promises.{held-holds}
 use Rattle.tables.specs.Layouts.{unicastTable, unroutedTable, destinationTable, broadcastTable}
 use Rattle.actions.specs.Told.{Told}
 use Rattle.actions.proofs.Lines.{told-none}
-use Rattle.model.specs.Model.{Model, Effect, withUnicasts, withUnrouted, withBroadcasts, denied, done, answers, lentModel, SoundTables, Does}
+use Rattle.model.specs.Model.{Effect, withUnicasts, withUnrouted, withBroadcasts, denied, done, answers, lentModel, SoundTables, Does}
 use Rattle.lent.specs.Types.{Unicast, Unrouted, Destination, Broadcast, Action, Answer, Accepted, Refusal, Counts, Did}
 use Rattle.lent.specs.Parts.{quietly, deniedBy, withUnicastCount, withBroadcastCount}
 

@@ -1,20 +1,17 @@
 -- What taking a route does, send by send: of the sends to a destination the first goes, then the next, until none is left. Assumes nothing.
-use Prim.Native.Nat.{ℕ, suc, _+_, _-_, _≤_, _<_}
+use Prim.Native.Nat.{ℕ, _+_, _-_, _≤_, _<_}
 use native.Mathlib.Omega.{arith}
 use mathlib.Core.Path.{_≡_, refl, sym, ap, ap₂, _∙_}
 use mathlib.Core.Bool.{Bool, true, false, not}
 use mathlib.Core.List.{List, [], _∷_, _++_, append-nil, append-assoc}
-use mathlib.Core.Logic.{⊎-elim}
 use mathlib.Core.Option.{Option, none, some}
 use lib.ListN.{length, take, drop, getD, drop-of-length-le}
-use lib.Dec.{leb}
-use borrow.Author.Tests.{eq-eqb, ne-eqb, le-leb, lt-leb, lt-ltb, le-ltb}
+use borrow.Author.Tests.{eq-eqb, ne-eqb, le-leb, lt-ltb, le-ltb}
 use Rattle.records.specs.Pick.{pick, bit}
 use Rattle.records.specs.Records.{unicastId, unroutedId, unroutedEntry, destinationAddress}
-use Rattle.records.proofs.Cases.{lt-or-le, either}
 use Rattle.rows.specs.Lists.{insertBy, removeBy}
 use Rattle.rows.specs.Tables.{live, wordsFor, Held, Holds}
-use Rattle.rows.specs.Moves.{Turn, told, each, firstOf, count, eachTold}
+use Rattle.rows.specs.Moves.{told, firstOf, count}
 use Rattle.rows.proofs.Promises.{live-cons, live-done, held-length, held-holds, holds-count}
 use Rattle.tables.specs.Layouts.{unicastTable, unroutedTable, destinationTable}
 use Rattle.actions.specs.Told.{Told}
@@ -28,7 +25,9 @@ use Rattle.unrouted.proofs.Turns.{bit-le}
 use Rattle.model.specs.Model.{denied, lentModel, SoundTables, Does}
 use Rattle.model.specs.Calls.{late, retryBy, retryOf, only, reached, routed, entering, failing, routing, routeOf}
 use Rattle.model.specs.Sound.{Kept}
+use Rattle.model.proofs.Fews.{sweep-one}
 use Rattle.model.proofs.Kepts.{kept-only}
+use Rattle.model.proofs.Routings.{left-count}
 use Rattle.model.proofs.Routes.{entering-length}
 use Rattle.lent.specs.Types.{None16, Address, Entry, Code, Settled, TimeTooLate, ResultsMismatch, NoPlace, Accepted, Lapsed, Settings, Unicast, Unrouted, Resolved, Reached, Unreached, Action, Retry, NotHeld, Declined, Granted, Counts, Did, Entered, Gone}
 use Rattle.lent.specs.Parts.{quietly}
@@ -235,34 +234,6 @@ module _ {s : Settings} {d now : ℕ} {results : List Resolved} {many : ℕ} {ws
           tells = rw (p₃, ← acts) (r .tells);
         }
 
--- ---- the tick before: as many are left as were counted, and it tells one action at most of each
-
-module _ (now d : ℕ) where
-  pub left-length : (xs : List Unrouted) → length (only (goesTo d) (each (sweepTurn (Lapsed now)) xs)) ≡ count (leftTo now d) xs
-  left-length [] = refl
-  left-length (x ∷ xs) =
-      ⊎-elim
-      (λ l. rw (lt-leb (x .deadline) now l, lt-ltb now (x .deadline) l) (here (goesTo d x) (left-length xs)))
-      (λ l. rw (le-leb (x .deadline) now l, le-ltb now (x .deadline) l) (gone (goesTo d x) (left-length xs)))
-      (lt-or-le now (x .deadline))
-    where
-      rest : List Unrouted
-      rest = only (goesTo d) (each (sweepTurn (Lapsed now)) xs)
-
-      here : (b : Bool) → length rest ≡ count (leftTo now d) xs → length (pick b (x ∷ rest) rest) ≡ bit (pick b true false) + count (leftTo now d) xs
-      here true ih = omega arith
-      here false ih = omega arith
-
-      gone : (b : Bool) → length rest ≡ count (leftTo now d) xs → length rest ≡ bit (pick b false false) + count (leftTo now d) xs
-      gone true ih = omega arith
-      gone false ih = omega arith
-
-  pub lapse-few : (xs : List Unrouted) → length (eachTold unroutedEntry (sweepTurn (Lapsed now)) xs) ≤ length xs
-  lapse-few [] = omega arith
-  lapse-few (x ∷ xs) =
-      either (λ (t : Turn Unrouted). length (told (unroutedEntry x) t ++ eachTold unroutedEntry (sweepTurn (Lapsed now)) xs) ≤ suc (length xs)) (leb (x .deadline) now)
-      (omega (arith, lapse-few xs)) (omega (arith, lapse-few xs))
-
 -- they are 16 at most
 pub left-few : {vs : List ℕ} {k n : ℕ} → Held unroutedTable vs k → (now d : ℕ) → n ≡ count (leftTo now d) (live unroutedTable vs k) → n ≤ 16
 left-few {vs} {k} h now d e = omega (arith, e, count-le (leftTo now d) (live unroutedTable vs k), held-length h, h .within)
@@ -274,10 +245,10 @@ pub routable : {vs vs′ buf buf′ : List ℕ} {k k′ n m us : ℕ} {results :
 routable {vs} {vs′} {buf} {buf′} {k} {k′} {n} now d h t e l f =
     let few : n ≤ 16 = left-few h now d e in
     record {
-      many = e ∙ sym (left-length now d (live unroutedTable vs k)) ∙ ap (λ (xs : List Unrouted). length (only (goesTo d) xs)) (sym (t .table .live-is));
+      many = e ∙ left-count now d (live unroutedTable vs k) ∙ ap (λ (xs : List Unrouted). length (only (goesTo d) xs)) (sym (t .table .live-is));
       there = omega arith;
       free = f;
-      space = omega (arith, h .within, t .tells .next, lapse-few now d (live unroutedTable vs k), held-length h);
+      space = omega (arith, h .within, t .tells .next, sweep-one (Lapsed now) (live unroutedTable vs k), held-length h);
     }
 
 -- ---- a restart, by its answer

@@ -9,11 +9,8 @@ use rows::Place;
 use unicasts::Outcome;
 use unrouted::Which;
 ghost use mathlib.Core.Path.{_≡_};
-ghost use Rattle.records.specs.Records.{unicastEntry};
-ghost use Rattle.rows.specs.Moves.{firstOf, hasId};
-ghost use Rattle.rows.specs.Lists.{lookup};
 ghost use Rattle.model.specs.Model.{lentModel, SoundTables, Does};
-ghost use Rattle.model.specs.Calls.{soonest, wakeOf, cancelOf, cancelUnrouted, tickOf, ticked};
+ghost use Rattle.model.specs.Calls.{soonest, wakeOf, cancelOf, cancelUnrouted, tickOf};
 ghost use Rattle.lent.specs.Parts.{cancelIn, cancelCast, AbandonedAll};
 
 // A unicast is cancelled, a broadcast's copy too: alone.

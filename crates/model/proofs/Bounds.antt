@@ -21,11 +21,9 @@ use Rattle.records.specs.declared.Confirm.the-variants.{OnHandoff}
 use Rattle.records.specs.declared.Address.the-variants.{Absent}
 use Rattle.records.proofs.Cases.{lt-or-le, eq-or-ne, either, never}
 use Rattle.rows.specs.Lists.{All, Rising, lookup}
-use Rattle.rows.specs.Moves.{Turn, told, count, firstOf, anyOf, eachTold, atFirstTold, idOf, hasId}
-use Rattle.rows.specs.Moves.Turn.{Keeps, HandsOff, Settles}
+use Rattle.rows.specs.Moves.{Turn, count, firstOf, anyOf, eachTold, atFirstTold, idOf, hasId}
 use Rattle.rows.proofs.Promises.{each-length, rising-lower}
 use Rattle.unicasts.specs.Rules as uni
-use Rattle.unrouted.specs.declared.Which.{Which}
 use Rattle.unrouted.specs.Rules as unr
 use Rattle.broadcasts.specs.Rules as bro
 use Rattle.unicasts.specs.Lists as unis

@@ -95,7 +95,7 @@ module _ (s : Settings) (now : ℕ) where
   )
 
 -- as many are left to route as are counted before the tick
-left-count : (now d : ℕ) (us : List Unrouted) → count (unr.leftTo now d) us ≡ length (only (unr.goesTo d) (each (unr.sweepTurn (Lapsed now)) us))
+pub left-count : (now d : ℕ) (us : List Unrouted) → count (unr.leftTo now d) us ≡ length (only (unr.goesTo d) (each (unr.sweepTurn (Lapsed now)) us))
 left-count now d [] = refl
 left-count now d (u ∷ us) = go (leb (u .deadline) now) refl (unr.goesTo d u) refl (left-count now d us)
   where

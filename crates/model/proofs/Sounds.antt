@@ -15,7 +15,7 @@ use Rattle.records.specs.Records.{unicastId, unroutedId, broadcastId, destinati
 use Rattle.records.specs.Priorities.{rankOf}
 use Rattle.records.proofs.Cases.{either, either-by, eq-or-ne}
 use Rattle.rows.specs.Lists.{All, insertBy, removeBy, lookup}
-use Rattle.rows.specs.Moves.{Turn, kept, each, atFirst, firstOf, anyOf, count, hasId, Same}
+use Rattle.rows.specs.Moves.{Turn, kept, atFirst, firstOf, anyOf, count, hasId, Same}
 use Rattle.rows.specs.Moves.Turn.{Keeps, HandsOff, Settles}
 use Rattle.broadcasts.specs.Claims.{Sane, Leaves}
 use Rattle.broadcasts.specs.declared.Best as cast

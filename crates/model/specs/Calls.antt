@@ -6,13 +6,13 @@ use mathlib.Core.Option.{Option, none, some}
 use lib.ListN.{length, take}
 use lib.Dec.{ltb, leb, eqb}
 use Rattle.records.specs.Pick.{pick}
-use Rattle.records.specs.Limits.{lastTime, noId, unicastRoom, unroutedRoom, destinationRoom, broadcastRoom}
+use Rattle.records.specs.Limits.{lastTime, noId, unicastRoom, broadcastRoom}
 use Rattle.records.specs.Priorities.{rankOf}
 use Rattle.records.specs.Records.{unicastId, unroutedId, broadcastId, destinationAddress, unicastEntry, unroutedEntry, broadcastEntry}
 use Rattle.records.specs.Times.{sooner}
-use Rattle.rows.specs.Lists.{fold, insertBy, removeBy, lookup}
+use Rattle.rows.specs.Lists.{insertBy, removeBy, lookup}
 use Rattle.rows.specs.Moves.{Turn, each, atFirst, firstOf, anyOf, count, eachTold, atFirstTold, hasId}
-use Rattle.model.specs.Types.{Opt16, None16, Opt32, None32, Some32, Opt64, None64, Some64, Address, AckKey, QuorumKey, Schedule, Once, PassiveAck, FixedInterval, Unicast, Unrouted, Destination, Broadcast, Settings, TxResult, Entry, Code, Action, Settled, Refusal, TimeTooLate, IdsExhausted, NoCopies, NoPlace, NoSuchSend, InTheRadio, DestinationNotHeld, ResultsMismatch, Best, NoneReady, Ready, Loan, NoLoan, Lent, NoBest, BestIs, Lapsed, Bound, Retry, NotHeld, Declined, Granted, NewUnicast, NewUnrouted, NewBroadcast, Resolved, Reached, Unreached, Lender, FromUnicasts, FromBroadcasts, Transmit, Unicasting, Broadcasting, Answer, Accepted, Issued, Replied, NothingQueued, InFlight}
+use Rattle.model.specs.Types.{Opt16, None16, Opt32, None32, Some32, Opt64, None64, Some64, Address, AckKey, QuorumKey, Schedule, Once, PassiveAck, FixedInterval, Unicast, Unrouted, Broadcast, Settings, TxResult, Entry, Code, Action, Settled, Refusal, TimeTooLate, IdsExhausted, NoCopies, NoPlace, NoSuchSend, InTheRadio, DestinationNotHeld, ResultsMismatch, Best, NoneReady, Ready, Loan, NoLoan, Lent, NoBest, BestIs, Lapsed, Bound, Retry, NotHeld, Declined, Granted, NewUnicast, NewUnrouted, NewBroadcast, Resolved, Reached, Unreached, Lender, FromUnicasts, FromBroadcasts, Unicasting, Broadcasting, Answer, Issued, Replied, NothingQueued, InFlight}
 use Rattle.model.specs.Model.{Model, Effect, withUnicasts, withUnrouted, withBroadcasts, denied, done, answers}
 use Rattle.broadcasts.specs.declared.Best as cast
 use Rattle.unicasts.specs.Rules as uni

@@ -1,7 +1,6 @@
 -- The send tables as lists: what they hold, what a call makes of them, and how they lie in words.
-use Prim.Native.Nat.{ℕ, _≤_, _<_}
+use Prim.Native.Nat.{ℕ}
 use mathlib.Core.Path.{_≡_}
-use mathlib.Core.Bool.{Bool, true, false}
 use mathlib.Core.List.{List, []}
 use lib.ListN.{length}
 use Rattle.rows.specs.Tables.{live, wordsFor, Held, Holds}

@@ -1,10 +1,9 @@
 -- The tables as calls from fresh ones leave them. Every call keeps this; it is the one premise of a call by value.
-use Prim.Native.Nat.{ℕ, _+_, _≤_, _<_}
+use Prim.Native.Nat.{ℕ, _+_, _≤_}
 use mathlib.Core.Path.{_≡_}
-use mathlib.Core.Bool.{Bool, true, false}
+use mathlib.Core.Bool.{true}
 use mathlib.Core.List.{List}
 use lib.ListN.{length}
-use lib.Dec.{eqb}
 use Rattle.records.specs.Limits.{noId, unicastRoom, unroutedRoom, destinationRoom, broadcastRoom}
 use Rattle.records.specs.Records.{unicastId, unroutedId, broadcastId, destinationAddress, unicastEntry, unroutedEntry, broadcastEntry}
 use Rattle.rows.specs.Lists.{All, Rising}
@@ -13,7 +12,7 @@ use Rattle.broadcasts.specs.Claims.{Sane}
 use Rattle.unrouted.specs.Rules.{isHeld}
 use Rattle.actions.specs.Told.{Told}
 use Rattle.model.specs.Types.{Unrouted, Sends, Answered}
-use Rattle.model.specs.Model.{Model, Effect, SoundTables, modelOf, answeredOf}
+use Rattle.model.specs.Model.{Model, Effect, SoundTables, modelOf}
 
 -- the records of a table rise in their key, and there is room for them
 pub record Kept {A : Type 0} (key : A → ℕ) (room : ℕ) (xs : List A) : Type 0 where

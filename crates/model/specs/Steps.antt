@@ -1,6 +1,5 @@
 -- Every call as data, and what one call does: its outcome, by cases. Histories of calls, the trace and the claims are over this.
 use Prim.Native.Nat.{ℕ}
-use mathlib.Core.Bool.{Bool, true, false}
 use mathlib.Core.List.{List, [], _∷_, map}
 use Rattle.records.specs.Pick.{pick}
 use Rattle.rows.specs.Lists.{fold, insertBy}

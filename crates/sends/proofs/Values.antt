@@ -2,7 +2,7 @@
 use Prim.Native.Nat.{ℕ}
 use native.Mathlib.Nat.{zero-add}
 use mathlib.Core.Path.{_≡_, sym, subst, _∙_}
-use mathlib.Core.List.{List, []}
+use mathlib.Core.List.{List}
 use lib.ListN.{length}
 use Rattle.rows.specs.Tables.{Holds}
 use Rattle.rows.proofs.Promises.{holds-count}

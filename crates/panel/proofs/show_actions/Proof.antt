@@ -1,6 +1,5 @@
 -- The measure is the number of actions that are left; nothing has to hold from turn to turn.
 use Prim.Native.Nat.{_-_}
-use native.Mathlib.Omega.{arith}
 use borrow.Author.Needs.{needs}
 use Rattle.panel.proofs.show_actions.Statement.{statement}
 use Rattle.panel.proofs.show_actions.Tie as tie

@@ -1,6 +1,6 @@
 use native.Mathlib.Omega.{arith}
 use mathlib.Core.Path.{refl}
-use lib.ListN.{length, length-map}
+use lib.ListN.{length-map}
 use Rattle.records.specs.Records.{unicastEntry, unroutedEntry}
 use Rattle.rows.specs.Tables.{live}
 use Rattle.rows.proofs.Promises.{held-length}

@@ -1,13 +1,13 @@
 use native.Mathlib.Omega.{arith}
 use mathlib.Core.Path.{_≡_, refl, sym, ap, _∙_}
 use mathlib.Core.Bool.{true, false}
-use mathlib.Core.Option.{Option, none, some}
+use mathlib.Core.Option.{none}
 use lib.ListN.{getD}
 use Rattle.records.specs.Records.{blankBroadcast, broadcastId, broadcastEntry}
 use Rattle.rows.specs.Lists.{lookup}
 use Rattle.rows.specs.Tables.{rowsOf, live}
 use Rattle.rows.specs.Moves.{anyOf, hasId}
-use Rattle.rows.proofs.Promises.{here-some, nowhere-none, hit-lookup, miss-lookup, held-length, held-holds}
+use Rattle.rows.proofs.Promises.{here-some, nowhere-none, hit-lookup, miss-lookup, held-holds}
 use Rattle.tables.specs.Layouts.{unicastTable, broadcastTable}
 use Rattle.actions.proofs.Lines.{told-append}
 use Rattle.unicasts.specs.Rules.{sentCopy}

@@ -1,7 +1,6 @@
 use native.Mathlib.Omega.{arith}
 use mathlib.Core.Path.{_≡_, refl, sym, _∙_}
 use mathlib.Core.Bool.{true, false}
-use lib.ListN.{length}
 use Rattle.records.specs.Records.{unicastEntry}
 use Rattle.rows.specs.Tables.{live}
 use Rattle.rows.proofs.Promises.{held-length, held-holds}

@@ -1,0 +1,30 @@
+use Rattle.events.specs.Signals.{settingsOf}
+use Rattle.events.specs.Types.{OnSettings}
+use borrow.Author.Needs.{needs}
+use Rattle.events.proofs.signals.decode_settings.Statement.{statement}
+use Rattle.events.proofs.signals.decode_settings.Tie as tie
+use Rattle.events.proofs.signals.decode_settings.Reads as reads
+use Rattle.events.proofs.signals.decode_settings.Lts as lts
+use Rattle.events.proofs.numbers.byte_at.Reads as byte-at-reads
+use Rattle.events.proofs.numbers.u32_at.Reads as u32-at-reads
+
+u32-at-requires : tie.Need-u32-at-requires
+u32-at-requires c κs = search needs
+
+u32-at-requires-2 : tie.Need-u32-at-requires-2
+u32-at-requires-2 c κs = search needs
+
+byte-at-requires : tie.Need-byte-at-requires
+byte-at-requires c κs = search needs
+
+byte-at-requires-2 : tie.Need-byte-at-requires-2
+byte-at-requires-2 c κs = search needs
+
+returns : tie.Need-returns
+unfolding settingsOf
+returns c = λ k. OnSettings (record { «handoff_timeout» = c .before .before .before .u32-at .ensures k; «persistence_time» = c .before .before .u32-at2 .ensures k; «unicast_retries» = c .before .byte-at .ensures k; «discovery_attempts» = c .byte-at2 .ensures k })
+
+pub decode-settings-spec : {M : Type 1} → statement M
+decode-settings-spec =
+    tie.close
+    (tie.spec u32-at-requires u32-at-requires-2 byte-at-requires byte-at-requires-2 returns)

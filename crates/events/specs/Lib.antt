@@ -1,0 +1,9 @@
+pub mod Types
+pub mod Bytes
+pub mod Kinds
+pub mod Reader
+pub mod Parts
+pub mod Arrivals
+pub mod Signals
+pub mod Routes
+pub mod Events

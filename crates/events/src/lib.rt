@@ -1,0 +1,134 @@
+// The events of a trace: kinds and body lengths, the reader, numbers out of bytes, and an event out of a record's body.
+use model::Lender;
+use model::NewBroadcast;
+use model::NewUnicast;
+use model::NewUnrouted;
+use model::Resolved;
+use records::AckKey;
+use records::Address;
+use records::Confirm;
+use records::Opt8;
+use records::Opt16;
+use records::Opt64;
+use records::Priority;
+use records::QuorumKey;
+use records::Schedule;
+use records::Settings;
+use records::TxResult;
+
+pub mod arrivals;
+pub mod decode;
+pub mod kinds;
+pub mod numbers;
+pub mod parts;
+pub mod reader;
+pub mod routes;
+pub mod signals;
+
+// What stands at a place of a trace: a record, with its kind, where its body starts and where the next one does; a kind of no
+// event; a record that the trace's end cuts; or that end.
+pub enum Standing {
+    Record { kind: u8, start: usize, next: usize },
+    Unknown,
+    Cut,
+    End,
+}
+
+// ---- the parts of a body: what was read, or that it is outside its form
+
+pub enum Read8 {
+    Is8(Opt8),
+    Wrong8,
+}
+
+pub enum Read16 {
+    Is16(Opt16),
+    Wrong16,
+}
+
+pub enum Read64 {
+    Is64(Opt64),
+    Wrong64,
+}
+
+pub enum ReadPriority {
+    IsPriority(Priority),
+    WrongPriority,
+}
+
+pub enum ReadAddress {
+    IsAddress(Address),
+    WrongAddress,
+}
+
+pub enum ReadKey {
+    IsKey(AckKey),
+    WrongKey,
+}
+
+pub enum ReadConfirm {
+    IsConfirm(Confirm),
+    WrongConfirm,
+}
+
+pub enum ReadResult {
+    IsResult(TxResult),
+    WrongResult,
+}
+
+pub enum ReadLender {
+    IsLender(Lender),
+    WrongLender,
+}
+
+pub enum ReadSchedule {
+    IsSchedule(Schedule),
+    WrongSchedule,
+}
+
+pub enum ReadResolved {
+    IsResolved(Resolved),
+    WrongResolved,
+}
+
+pub enum ReadUnicast {
+    IsUnicast(NewUnicast),
+    WrongUnicast,
+}
+
+// ---- events
+
+// An event by its kind, 1 to 22, with what its call takes; or that its record is outside its form, which is refusal 14. The
+// sixteen results of a route stand beside it (routes::route_results).
+pub enum Event {
+    OnSettings(Settings),
+    OnUnicast(u64, NewUnicast),
+    OnCopy(u32, u64, NewUnicast),
+    OnUnrouted(u64, NewUnrouted),
+    OnBroadcast(u64, NewBroadcast),
+    OnDequeue(u64),
+    OnReport {
+        from: Lender,
+        id: u32,
+        frame: u32,
+        result: TxResult,
+        clock: u64,
+        delay: u32,
+    },
+    OnPoll(u64, Opt64, Opt16),
+    OnAck(AckKey),
+    OnRetry(u16),
+    OnFail(u16),
+    OnRoute(u64, u16, usize),
+    OnDelivered(QuorumKey),
+    OnDrop(Opt64, u16),
+    OnCancel(u32),
+    OnTick(u64),
+    OnAbandon,
+    OnNextWake,
+    OnPair(u64, u16),
+    OnLists,
+    OnHasUnrouted(u16),
+    OnHasAwaiting(Address),
+    Malformed,
+}
