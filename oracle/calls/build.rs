@@ -1,16 +1,17 @@
-//! Links the archive that CALLS_ARCHIVE names (a path that ends in libNAME.a); without one there is nothing to time.
+//! Links the archives in the folder that CALLS_ARCHIVES names, one for each face; without it there is nothing to time.
 
 use std::env;
 use std::path::Path;
 
 fn main() {
     println!("cargo:rustc-check-cfg=cfg(archive)");
-    println!("cargo:rerun-if-env-changed=CALLS_ARCHIVE");
-    let Some(name) = env::var_os("CALLS_ARCHIVE") else { return };
-    let path = Path::new(&name).canonicalize().expect("CALLS_ARCHIVE names a file");
-    let stem = path.file_stem().and_then(|stem| stem.to_str()).and_then(|stem| stem.strip_prefix("lib"));
-    println!("cargo:rerun-if-changed={}", path.display());
+    println!("cargo:rerun-if-env-changed=CALLS_ARCHIVES");
+    let Some(name) = env::var_os("CALLS_ARCHIVES") else { return };
+    let folder = Path::new(&name).canonicalize().expect("CALLS_ARCHIVES names a folder");
     println!("cargo:rustc-cfg=archive");
-    println!("cargo:rustc-link-search=native={}", path.parent().expect("a file is in a folder").display());
-    println!("cargo:rustc-link-lib=static={}", stem.expect("an archive is called libNAME.a"));
+    println!("cargo:rustc-link-search=native={}", folder.display());
+    for face in ["rules", "inplace", "byvalue"] {
+        println!("cargo:rerun-if-changed={}", folder.join(format!("lib{face}.a")).display());
+        println!("cargo:rustc-link-lib=static={face}");
+    }
 }

@@ -1,8 +1,16 @@
-//! Times one call of each rules crate, through C, beside the same call of the Rust: eight live sends, hit and miss.
-//! Both sides run in turn in one process; a figure is the least of many runs. Without an archive there is nothing to time.
+//! Times one call of each rules crate, and then the calls of the send tables, beside the same calls of the Rust.
+//! All sides run in turn in one process; a figure is the least of many runs. Without archives there is nothing to time.
 
 #[cfg(archive)]
+mod cycles;
+#[cfg(archive)]
+mod original;
+#[cfg(archive)]
 mod ours;
+#[cfg(archive)]
+mod proved;
+#[cfg(archive)]
+mod tables;
 #[cfg(archive)]
 mod theirs;
 
@@ -122,9 +130,12 @@ fn main() {
             shown(b.broadcast_cancel());
         }),
     );
+
+    println!();
+    cycles::table();
 }
 
 #[cfg(not(archive))]
 fn main() {
-    println!("calls: no archive to time (oracle/measure makes one)");
+    println!("calls: no archives to time (oracle/measure makes them)");
 }
