@@ -1,0 +1,3 @@
+-- What the replies are.
+pub mod Types
+pub mod Replies
