@@ -1,0 +1,4 @@
+-- What the listings are.
+pub mod Types
+pub mod Listings
+pub mod Maps
