@@ -1,0 +1,3 @@
+-- The laws of the steps.
+pub mod Arms
+pub mod Bridge
