@@ -3,7 +3,7 @@ use Prim.Native.Nat.{ℕ, zero, suc, _+_, _*_}
 use mathlib.Core.Bool.{Bool, true, false}
 use mathlib.Core.List.{List, [], _∷_}
 use lib.Dec.{eqb, ltb}
-use lib.ListN.{replicate}
+use lib.ListN.{length, replicate}
 use Rattle.records.specs.Pick.{pick}
 use Rattle.events.specs.Bytes.{number}
 use Rattle.events.specs.Parts.{addressAt}
@@ -50,6 +50,10 @@ resultsFrom b i (suc n) = resultIn (resolvedAt (i * 14 + 11) b) ∷ resultsFrom 
 
 unfoldable pub resultsOf : List ℕ → List Resolved
 resultsOf b = resultsFrom b 0 16
+
+-- none in a body that is too short for them
+unfoldable pub resultsIn : List ℕ → List Resolved
+resultsIn b = pick (ltb (length b) 235) noResults (resultsOf b)
 
 -- below the count a result is in its form, and from there on all of it is zero
 abbrev pub entryRight : List ℕ → ℕ → ℕ → Bool

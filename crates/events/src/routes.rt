@@ -12,7 +12,7 @@ use records::Address;
 ghost use mathlib.Core.Path.{_≡_};
 ghost use Prim.Native.Nat.{_+_, _≤_, _<_};
 ghost use lib.ListN.{length};
-ghost use Rattle.events.specs.Routes.{unreachedBy, resolvedBy, resolvedWith, resolvedAt, resultIn, inForm, resultsOf, entryRight, entriesRight, routeOf};
+ghost use Rattle.events.specs.Routes.{unreachedBy, resolvedBy, resolvedWith, resolvedAt, resultIn, inForm, resultsOf, resultsIn, entryRight, entriesRight, routeOf};
 
 // ---- one result
 
@@ -89,7 +89,7 @@ fn in_form(x: ReadResolved) -> bool
 // ---- the sixteen of them
 
 // The results, in their order; one outside its form stands as a code of 0.
-pub fn route_results(b: &[u8]) -> [Resolved; 16]
+fn route_results(b: &[u8]) -> [Resolved; 16]
     requires { ⌜ 235 ≤ length (now b) ⌝ }
     ensures { λ r. ⌜ r ≡ resultsOf (now (b .entry)) ⌝ }
 {
@@ -100,6 +100,16 @@ pub fn route_results(b: &[u8]) -> [Resolved; 16]
         i = i + 1;
     }
     results
+}
+
+// The same of a body of any length: one too short to have them gives sixteen codes of 0.
+pub fn results_in(b: &[u8]) -> [Resolved; 16]
+    ensures { λ r. ⌜ r ≡ resultsIn (now (b .entry)) ⌝ }
+{
+    if b.len() < 235 {
+        return [Resolved::Unreached(0); 16];
+    }
+    route_results(b)
 }
 
 fn entry_right(b: &[u8], count: usize, i: usize) -> bool

@@ -14,7 +14,7 @@ use Rattle.steps.specs.Types.{Settings, Resolved, Accepted, Event, OnSet
 use Rattle.steps.specs.Applied.{effectOf, armIn}
 
 -- a number stands in a list
-abbrev among : ℕ → List ℕ → Bool
+abbrev pub among : ℕ → List ℕ → Bool
 among x [] = false
 among x (k ∷ ks) = eqb x k || among x ks
 
@@ -29,7 +29,7 @@ later false b t = t
 is-same : (x k : ℕ) → x ≡ k → T (eqb x k)
 is-same x k e = subst (λ (y : ℕ). T (eqb y k)) (sym e) (eqb-refl k)
 
-one-among : (ks : List ℕ) (x : ℕ) → OneOf ks x → T (among x ks)
+pub one-among : (ks : List ℕ) (x : ℕ) → OneOf ks x → T (among x ks)
 one-among [] x h = absurd h
 one-among (k ∷ []) x e = here (eqb x k) false (is-same x k e)
 one-among (k ∷ j ∷ ks) x (inl e) = here (eqb x k) (among x (j ∷ ks)) (is-same x k e)

@@ -4,11 +4,11 @@ use events::Event;
 use model::Answer;
 use model::Counts;
 use model::Did;
-use model::Resolved;
 use records::Refusal;
 use records::Settings;
 ghost use mathlib.Core.Path.{_≡_};
 ghost use Prim.Native.Nat.{_≤_};
+ghost use Rattle.events.specs.Routes.{resultsIn};
 ghost use Rattle.model.specs.Model.{lentModel, SoundTables, Does};
 ghost use Rattle.lent.specs.Parts.{quietly};
 ghost use Rattle.steps.specs.Applied.{effectOf, armIn};
@@ -34,11 +34,11 @@ fn ask(
     told: &mut [u64; 560],
     s: Settings,
     e: Event,
-    results: [Resolved; 16],
+    body: &[u8],
 ) -> Did
     requires { ⌜ SoundTables c (now w) (now v) (now d) (now b) ⌝ }
     requires { ⌜ armIn e ≡ 2 ⌝ }
-    ensures { λ r. ⌜ Does (effectOf (lentModel c (now (w .entry)) (now (v .entry)) (now (d .entry)) (now (b .entry))) s e results) (now (told .entry)) (now (w .exit)) (now (v .exit)) (now (d .exit)) (now (b .exit)) (now (told .exit)) r ⌝ }
+    ensures { λ r. ⌜ Does (effectOf (lentModel c (now (w .entry)) (now (v .entry)) (now (d .entry)) (now (b .entry))) s e (resultsIn (now (body .entry)))) (now (told .entry)) (now (w .exit)) (now (v .exit)) (now (d .exit)) (now (b .exit)) (now (told .exit)) r ⌝ }
 {
     match e {
         Event::OnHasUnrouted(k) => {
@@ -64,11 +64,11 @@ fn signal(
     told: &mut [u64; 560],
     s: Settings,
     e: Event,
-    results: [Resolved; 16],
+    body: &[u8],
 ) -> Did
     requires { ⌜ SoundTables c (now w) (now v) (now d) (now b) ⌝ }
     requires { ⌜ 1 ≤ armIn e ⌝ }
-    ensures { λ r. ⌜ Does (effectOf (lentModel c (now (w .entry)) (now (v .entry)) (now (d .entry)) (now (b .entry))) s e results) (now (told .entry)) (now (w .exit)) (now (v .exit)) (now (d .exit)) (now (b .exit)) (now (told .exit)) r ⌝ }
+    ensures { λ r. ⌜ Does (effectOf (lentModel c (now (w .entry)) (now (v .entry)) (now (d .entry)) (now (b .entry))) s e (resultsIn (now (body .entry)))) (now (told .entry)) (now (w .exit)) (now (v .exit)) (now (d .exit)) (now (b .exit)) (now (told .exit)) r ⌝ }
 {
     match e {
         Event::OnDequeue(t) => lent::radio::dequeue(c, w, v, d, b, told, t),
@@ -77,6 +77,7 @@ fn signal(
         Event::OnRetry(k) => lent::routes::retry_discovery(c, w, v, d, b, told, k),
         Event::OnFail(k) => lent::routes::fail_unrouted(c, w, v, d, b, told, k),
         Event::OnRoute(t, k, n) => {
+            let results = events::routes::results_in(body);
             lent::routes::route_unicasts(c, w, v, d, b, told, s, k, t, results, n)
         }
         Event::OnDelivered(k) => lent::devices::broadcast_delivered(c, w, v, d, b, told, k),
@@ -85,7 +86,7 @@ fn signal(
         }
         Event::OnCancel(id) => lent::ends::cancel(c, w, v, d, b, told, id),
         Event::OnTick(t) => lent::ends::tick(c, w, v, d, b, told, t),
-        _ => ask(c, w, v, d, b, told, s, e, results),
+        _ => ask(c, w, v, d, b, told, s, e, body),
     }
 }
 
@@ -99,10 +100,10 @@ pub fn apply(
     told: &mut [u64; 560],
     s: Settings,
     e: Event,
-    results: [Resolved; 16],
+    body: &[u8],
 ) -> Did
     requires { ⌜ SoundTables c (now w) (now v) (now d) (now b) ⌝ }
-    ensures { λ r. ⌜ Does (effectOf (lentModel c (now (w .entry)) (now (v .entry)) (now (d .entry)) (now (b .entry))) s e results) (now (told .entry)) (now (w .exit)) (now (v .exit)) (now (d .exit)) (now (b .exit)) (now (told .exit)) r ⌝ }
+    ensures { λ r. ⌜ Does (effectOf (lentModel c (now (w .entry)) (now (v .entry)) (now (d .entry)) (now (b .entry))) s e (resultsIn (now (body .entry)))) (now (told .entry)) (now (w .exit)) (now (v .exit)) (now (d .exit)) (now (b .exit)) (now (told .exit)) r ⌝ }
 {
     match e {
         Event::OnUnicast(t, u) => { lent::enqueues::enqueue_unicast(c, w, v, d, b, told, s, u, t) }
@@ -125,6 +126,6 @@ pub fn apply(
         } => {
             lent::radio::transmitted(c, w, v, d, b, told, from, id, frame, result, clock, delay)
         }
-        _ => signal(c, w, v, d, b, told, s, e, results),
+        _ => signal(c, w, v, d, b, told, s, e, body),
     }
 }

@@ -140,7 +140,7 @@ pub fn number(extended: Eui64) -> u64 {
 }
 
 /// A verdict's number, its address and its code.
-fn verdict(result: Result<(), Fault>) -> (u8, Option<Ieee802154Address>, u16) {
+pub fn verdict(result: Result<(), Fault>) -> (u8, Option<Ieee802154Address>, u16) {
     let failure = match result {
         Ok(()) => return (0, None, 0),
         Err(Fault::Code(code)) => return (7, None, code),

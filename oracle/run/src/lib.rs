@@ -2,9 +2,11 @@
 
 pub mod answer;
 pub mod event;
+pub mod file;
 pub mod form;
 pub mod inspect;
 pub mod machine;
+pub mod replay;
 
 use answer::{Answers, end};
 use form::{RESERVED, Standing, number, standing};

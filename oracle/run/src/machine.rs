@@ -55,18 +55,15 @@ pub struct Machine {
 impl Machine {
     /// Fresh tables under the default settings. A watched machine compares what it keeps with the Rust after each event.
     pub fn new(watched: bool) -> Self {
-        let mut machine = Self {
+        Self {
             sends: Sends::default(),
-            tunables: Tunables::default(),
+            tunables: tunables(),
             map: FlatMap::new(),
             next_id: 0,
             live: Vec::new(),
             radio: Vec::new(),
             watched,
-        };
-        let (handoff, persistence, retries, attempts) = form::DEFAULTS;
-        machine.set(handoff, persistence, retries, attempts);
-        machine
+        }
     }
 
     pub fn next_id(&self) -> u32 {
@@ -125,7 +122,7 @@ impl Machine {
     fn step(&mut self, event: Event, answers: &mut Answers) -> Step {
         match event {
             Event::Settings { handoff, persistence, retries, attempts } => {
-                self.set(handoff, persistence, retries, attempts);
+                set(&self.tunables, handoff, persistence, retries, attempts);
                 Ok(())
             }
             Event::Unicast { load, way } => self.unicast(None, load, way, answers),
@@ -176,17 +173,6 @@ impl Machine {
             _ => unreachable!("every other event is taken above"),
         }
         Ok(())
-    }
-
-    fn set(&mut self, handoff: u32, persistence: u32, retries: u8, attempts: u8) {
-        for (name, value) in [
-            ("handoff_timeout", u64::from(handoff)),
-            ("transaction_persistence_time", u64::from(persistence)),
-            ("unicast_retries", u64::from(retries)),
-            ("pending_route_discovery_attempts", u64::from(attempts)),
-        ] {
-            self.tunables.set(name, value).expect("every value of its width is good");
-        }
     }
 
     /// An id is left to draw, and then the table has room for one more.
@@ -419,6 +405,26 @@ impl Machine {
     }
 }
 
+/// The Rust's settings as a run begins with them.
+pub fn tunables() -> Tunables {
+    let tunables = Tunables::default();
+    let (handoff, persistence, retries, attempts) = form::DEFAULTS;
+    set(&tunables, handoff, persistence, retries, attempts);
+    tunables
+}
+
+/// The settings of a record, under the Rust's names.
+pub fn set(tunables: &Tunables, handoff: u32, persistence: u32, retries: u8, attempts: u8) {
+    for (name, value) in [
+        ("handoff_timeout", u64::from(handoff)),
+        ("transaction_persistence_time", u64::from(persistence)),
+        ("unicast_retries", u64::from(retries)),
+        ("pending_route_discovery_attempts", u64::from(attempts)),
+    ] {
+        tunables.set(name, value).expect("every value of its width is good");
+    }
+}
+
 /// A time handed in, or refusal 1. One microsecond of the Rust stands for one millisecond.
 fn time(now: u64) -> Result<Instant, u8> {
     if now > form::LAST_TIME {
@@ -446,7 +452,7 @@ fn schedule(plan: Plan) -> Result<Schedule, u8> {
 }
 
 /// The Rust's id of a number. It hands ids out and takes them back, but makes none from a number, and a trace may name any.
-fn send_id(number: u32) -> SendId {
+pub fn send_id(number: u32) -> SendId {
     const { assert!(size_of::<SendId>() == size_of::<u32>() && align_of::<SendId>() == align_of::<u32>()) };
     // SAFETY: a SendId is one u32 and nothing else, as the sizes and the next line say, and every u32 is one.
     let id: SendId = unsafe { std::mem::transmute(number) };

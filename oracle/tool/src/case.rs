@@ -1,8 +1,9 @@
 //! Cases: a trace and an output's capacity, made from a seed, whole or damaged.
 
-use run::form::{LONGEST, RESERVED, event};
+pub use run::file::Case;
+use run::form::{LONGEST, RESERVED, event, event_body};
 
-use crate::flavour::FLAVOURS;
+use crate::flavour::{BACK, FLAVOURS};
 use crate::r#gen::Maker;
 use crate::make::Bytes;
 use crate::rng::Rng;
@@ -10,13 +11,9 @@ use crate::rng::Rng;
 /// The largest output that a case asks for.
 pub const LARGEST: usize = 1 << 20;
 
-/// What is run, and into how much room.
-#[derive(Debug, Clone, PartialEq, Eq)]
-pub struct Case {
-    pub what: String,
-    pub capacity: usize,
-    pub trace: Vec<u8>,
-}
+/// The shape of a trace that was not damaged, and the flavour of one that the generator's maker did not make.
+const WHOLE: &str = "whole";
+const UNMADE: &str = "unmade";
 
 /// How long generated traces become.
 #[derive(Debug, Clone, Copy, PartialEq, Eq)]
@@ -27,9 +24,25 @@ pub enum Size {
     Any,
 }
 
+/// A case of a seed, and what it is of each sort of class.
+pub struct Drawn {
+    pub case: Case,
+    pub flavour: &'static str,
+    pub shape: &'static str,
+    pub room: &'static str,
+}
+
 /// The case of a seed.
 pub fn of_seed(seed: u64, size: Size, watched: bool) -> Case {
+    drawn(seed, size, watched).case
+}
+
+/// The same with its classes.
+pub fn drawn(seed: u64, size: Size, watched: bool) -> Drawn {
     let mut rng = Rng::new(seed);
+    if size == Size::Any && rng.chance(1, 50) {
+        return wild(&mut rng);
+    }
     let long = size == Size::Any && rng.chance(1, 200);
     let events = match (size, rng.below(10)) {
         (Size::Small, _) => rng.range(3, 16),
@@ -37,7 +50,8 @@ pub fn of_seed(seed: u64, size: Size, watched: bool) -> Case {
         (Size::Any, 2..=7) => rng.range(12, 120),
         (Size::Any, _) => rng.range(120, 500),
     };
-    let mut maker = Maker::new(&mut rng, watched);
+    let back = size == Size::Any && rng.chance(1, 12);
+    let mut maker = if back { Maker::of(&mut rng, &BACK, watched) } else { Maker::new(&mut rng, watched) };
     if long {
         lengthen(&mut maker);
     } else {
@@ -45,22 +59,65 @@ pub fn of_seed(seed: u64, size: Size, watched: bool) -> Case {
             maker.event();
         }
     }
-    let mut what = maker.flavour().to_string();
-    let Maker { mut trace, starts, answered, .. } = maker;
-    if long {
-        pad(&mut rng, &mut trace);
-        what += ", long";
+    let flavour = maker.flavour();
+    let Maker { mut trace, starts, mut answered, .. } = maker;
+    let shape = if long {
+        answered += pad(&mut rng, &mut trace);
+        "long"
     } else if rng.chance(1, 5) {
-        what += damage(&mut rng, &mut trace, &starts);
-    }
-    let capacity = capacity(&mut rng, answered + RESERVED);
+        damage(&mut rng, &mut trace, &starts)
+    } else {
+        WHOLE
+    };
+    let (room, capacity) = capacity(&mut rng, answered + RESERVED);
+    Drawn { case: named(flavour, shape, capacity, trace), flavour, shape, room }
+}
+
+fn named(flavour: &str, shape: &str, capacity: usize, trace: Vec<u8>) -> Case {
+    let what = if shape == WHOLE { flavour.to_string() } else { format!("{flavour}, {shape}") };
     Case { what, capacity, trace }
 }
 
+/// A trace that no run was beside: records with any bodies, any bytes, or far more of them than are run.
+fn wild(rng: &mut Rng) -> Drawn {
+    let mut trace = Vec::new();
+    let shape = match rng.below(8) {
+        0 => {
+            trace.resize(LONGEST + 1 + rng.index(LONGEST), event::NEXT_WAKE);
+            "far too long"
+        }
+        1..=2 => {
+            trace.extend((0..rng.below(200)).map(|_| rng.word() as u8));
+            "any bytes"
+        }
+        _ => {
+            for _ in 0..rng.range(1, 60) {
+                any_record(rng, &mut trace);
+            }
+            "any bodies"
+        }
+    };
+    let needed = if shape == "any bodies" { 400 + rng.index(4000) } else { RESERVED + rng.index(200) };
+    let (room, capacity) = capacity(rng, needed);
+    Drawn { case: named(UNMADE, shape, capacity, trace), flavour: UNMADE, shape, room }
+}
+
+/// A record of any kind. Most bytes of its body are 0, so that it is at times in its form.
+fn any_record(rng: &mut Rng, trace: &mut Vec<u8>) {
+    let kind = rng.range(1, 22) as u8;
+    trace.push(kind);
+    let length = event_body(kind).expect("a known kind");
+    trace.extend((0..length).map(|_| match rng.below(40) {
+        0 => rng.word() as u8,
+        1..=4 => rng.below(3) as u8,
+        _ => 0,
+    }));
+}
+
 /// A whole trace of one flavour and so many events, in ample room.
-pub fn of_flavour(seed: u64, flavour: usize, events: usize) -> Case {
+pub fn of_flavour(seed: u64, flavour: usize, events: usize, watched: bool) -> Case {
     let mut rng = Rng::new(seed);
-    let mut maker = Maker::of(&mut rng, &FLAVOURS[flavour % FLAVOURS.len()], true);
+    let mut maker = Maker::of(&mut rng, &FLAVOURS[flavour % FLAVOURS.len()], watched);
     for _ in 0..events {
         maker.event();
     }
@@ -75,21 +132,25 @@ fn lengthen(maker: &mut Maker) {
     }
 }
 
-/// Short records up to a length at the longest or close to it.
-fn pad(rng: &mut Rng, trace: &mut Vec<u8>) {
+/// Short records up to a length at the longest or close to it; gives the most that their answers take.
+fn pad(rng: &mut Rng, trace: &mut Vec<u8>) -> usize {
     let goal = (LONGEST + 3 - rng.index(7)).max(trace.len());
+    let mut answered = 0;
     while trace.len() + 3 < goal {
         let mut b = Bytes::default();
         b.about(event::HAS_UNROUTED, 1);
         trace.extend(b.0);
+        answered += 3;
     }
+    answered += 10 * (goal - trace.len());
     trace.resize(goal, event::NEXT_WAKE);
+    answered
 }
 
 /// Damages a trace in one way and says which.
 fn damage(rng: &mut Rng, trace: &mut Vec<u8>, starts: &[usize]) -> &'static str {
     if trace.is_empty() {
-        return ", empty";
+        return "empty";
     }
     if rng.chance(1, 2) { damage_bytes(rng, trace) } else { damage_records(rng, trace, starts) }
 }
@@ -100,22 +161,22 @@ fn damage_bytes(rng: &mut Rng, trace: &mut Vec<u8>) -> &'static str {
     match rng.below(4) {
         0 => {
             trace.truncate(byte);
-            ", cut"
+            "cut"
         }
         1 => {
             for _ in 0..rng.range(1, 3) {
                 let byte = rng.index(trace.len());
                 trace[byte] ^= 1 << rng.below(8);
             }
-            ", bits flipped"
+            "bits flipped"
         }
         2 => {
-            trace[byte] = rng.next() as u8;
-            ", a byte changed"
+            trace[byte] = rng.word() as u8;
+            "a byte changed"
         }
         _ => {
-            trace.extend((0..rng.range(1, 9)).map(|_| rng.next() as u8));
-            ", bytes added"
+            trace.extend((0..rng.range(1, 9)).map(|_| rng.word() as u8));
+            "bytes added"
         }
     }
 }
@@ -129,36 +190,36 @@ fn damage_records(rng: &mut Rng, trace: &mut Vec<u8>, starts: &[usize]) -> &'sta
     match rng.below(5) {
         0 => {
             trace.insert(start, rng.pick(&[0, 23, 24, 127, 128, 129, 255]));
-            ", unknown kind"
+            "unknown kind"
         }
         1 => {
             trace.push(rng.pick(&[0, 23, 255]));
-            ", unknown kind at the end"
+            "unknown kind at the end"
         }
         2 => {
             trace.drain(start..end);
-            ", a record left out"
+            "a record left out"
         }
         3 => {
             trace.splice(start..start, record);
-            ", a record doubled"
+            "a record doubled"
         }
         _ => {
             trace.drain(start..end);
             trace.extend(record);
-            ", a record moved to the end"
+            "a record moved to the end"
         }
     }
 }
 
-/// Room enough, or an end at any distance from where the answers end.
-fn capacity(rng: &mut Rng, needed: usize) -> usize {
-    let room = match rng.below(20) {
-        0..=12 => needed + rng.index(64),
-        13..=14 => needed,
-        15..=17 => needed.saturating_sub(rng.index(64)),
-        18 => rng.index(needed + 1),
-        _ => rng.index(13),
+/// Room enough, or an end at any distance from where the answers end; and the name of which.
+fn capacity(rng: &mut Rng, needed: usize) -> (&'static str, usize) {
+    let (name, room) = match rng.below(20) {
+        0..=12 => ("ample", needed + rng.index(64)),
+        13..=14 => ("just enough", needed),
+        15..=17 => ("a little less", needed.saturating_sub(rng.index(64))),
+        18 => ("anything less", rng.index(needed + 1)),
+        _ => ("at most twelve bytes", rng.index(13)),
     };
-    room.min(LARGEST)
+    (name, room.min(LARGEST))
 }

@@ -12,6 +12,7 @@ pub type Subject<'a> = &'a dyn Fn(&[u8], &mut [u8]) -> usize;
 const GUARD: usize = 64;
 
 /// Both outputs of one case between their guards, with the lengths returned. Past a length stands what was there before.
+#[derive(Default)]
 pub struct Pair {
     judge: Vec<u8>,
     subject: Vec<u8>,
@@ -24,10 +25,6 @@ fn pattern(length: usize) -> Vec<u8> {
 }
 
 impl Pair {
-    pub fn new() -> Self {
-        Self { judge: Vec::new(), subject: Vec::new(), lengths: (0, 0) }
-    }
-
     /// Runs both and says whether they agree in length and in every byte, those past the length and the guards included.
     pub fn agree(&mut self, capacity: usize, trace: &[u8], subject: Subject) -> bool {
         let fresh = pattern(capacity + 2 * GUARD);
@@ -40,8 +37,13 @@ impl Pair {
         self.lengths.0 == self.lengths.1 && self.judge == self.subject
     }
 
+    /// How large each output is with its guards.
+    pub fn room(&self) -> usize {
+        self.judge.len()
+    }
+
     /// What the judge wrote, and what the subject says that it wrote.
-    fn answers(&self) -> (&[u8], &[u8]) {
+    pub fn answers(&self) -> (&[u8], &[u8]) {
         let (judge, subject) = self.lengths;
         let most = self.subject.len() - 2 * GUARD;
         (&self.judge[GUARD..GUARD + judge], &self.subject[GUARD..GUARD + subject.min(most)])
@@ -69,7 +71,7 @@ impl Pair {
 
 /// The smallest case found that still differs: records left out, room made ample, bytes set to zero.
 pub fn shrink(case: &Case, subject: Subject) -> Case {
-    let mut pair = Pair::new();
+    let mut pair = Pair::default();
     let mut differs = |capacity: usize, pieces: &[Vec<u8>]| !pair.agree(capacity, &pieces.concat(), subject);
     let mut pieces = pieces(&case.trace);
     let mut capacity = case.capacity;
@@ -136,7 +138,7 @@ fn plainer(pieces: &mut [Vec<u8>], differs: &mut dyn FnMut(&[Vec<u8>]) -> bool) 
 
 /// A case that differs, in words: its records, both answers where they part, and a byte that nobody was to change.
 pub fn explain(case: &Case, subject: Subject) -> String {
-    let mut pair = Pair::new();
+    let mut pair = Pair::default();
     pair.agree(case.capacity, &case.trace, subject);
     let mut text = format!("{}: {} bytes into {}\n", case.what, case.trace.len(), case.capacity);
     for line in words::trace(&case.trace) {

@@ -21,6 +21,8 @@ pub struct Flavour {
     /// Where time begins, and whether spans and times go to their ends.
     pub base: u64,
     pub edges: bool,
+    /// Out of 100: times that lie before the present, which goes back with them.
+    pub back: u64,
 }
 
 const PLAIN: Flavour = Flavour {
@@ -37,7 +39,11 @@ const PLAIN: Flavour = Flavour {
     failed: 45,
     base: 0,
     edges: false,
+    back: 0,
 };
+
+/// A clock that goes back. It is not among the flavours below, since the stored set is made from those.
+pub const BACK: Flavour = Flavour { name: "clock back", base: 1000, back: 30, ..PLAIN };
 
 pub const FLAVOURS: [Flavour; 11] = [
     PLAIN,

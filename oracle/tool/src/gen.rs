@@ -146,13 +146,18 @@ impl<'a> Maker<'a> {
             0 => 0,
             1 => 1,
             2 => u32::MAX,
-            3 => self.rng.next() as u32,
+            3 => self.rng.word() as u32,
             _ => self.rng.range(2, usual) as u32,
         }
     }
 
     /// The present, moved on a little, at times back.
     fn soon(&mut self) -> u64 {
+        if self.flavour.back > 0 && self.rng.chance(self.flavour.back, 100) {
+            let far = if self.rng.chance(1, 8) { self.now + 1 } else { 60.min(self.now + 1) };
+            self.now -= self.rng.below(far);
+            return self.now;
+        }
         match self.rng.below(100) {
             0..=59 => {
                 self.now = self.now.saturating_add(self.rng.below(3)).min(LAST_TIME);
@@ -217,7 +222,7 @@ impl<'a> Maker<'a> {
         if !self.rng.chance(1, 10) {
             self.next_frame = self.next_frame.wrapping_add(1);
         }
-        let waiter = if self.rng.chance(1, 20) { self.rng.next() as u32 } else { frame ^ 0x100 };
+        let waiter = if self.rng.chance(1, 20) { self.rng.word() as u32 } else { frame ^ 0x100 };
         let priority = self.rng.pick(&[0, 1, 2, 2, 2, 3, 4, 5]);
         Load { now, frame, waiter, priority }
     }

@@ -1,35 +1,16 @@
 //! The oracle's commands. `oracle` alone says what they are.
 
-mod case;
-mod compare;
-#[rustfmt::skip]
-mod directed;
-mod exhaustive;
-mod file;
-mod flavour;
-mod forms;
-mod r#gen;
-mod known;
-mod make;
-mod panics;
-mod rng;
-mod script;
-mod selftest;
-mod stats;
-mod stored;
-mod subject;
-mod variants;
-mod words;
-
 use std::fs;
 use std::io::{Read, Write};
 use std::path::Path;
 use std::process::ExitCode;
 use std::time::Instant;
 
-use case::{Case, Size};
-use compare::Pair;
-use file::Answered;
+use oracle::case::{self, Case, Size};
+use oracle::compare::{self, Pair};
+use oracle::file::{self, Answered};
+use oracle::scale::{self, Wanted};
+use oracle::{exhaustive, selftest, stats, stored, subject, variants, words};
 
 const HELP: &str = "\
 oracle run CAPACITY           the answers to the trace on standard input, as raw bytes
@@ -38,6 +19,7 @@ oracle stats DIR              counts over the case files of DIR
 oracle show FILE [PLACE]      a case file's cases in words, or one of them
 oracle replay DIR             the case files of DIR run again on the Rust as it is built
 oracle compare SEED N         N generated cases: the Rust against the C function, every byte
+oracle compare scale [N [SEED]]  generated cases until N events (100000000) were compared, in JOBS jobs (1), with counts
 oracle compare DIR            the same over case files
 oracle compare short          the same over every trace of up to two bytes
 oracle compare sequences N    the same over every sequence of N out of 23 events
@@ -102,35 +84,11 @@ fn show(path: &str, place: Option<usize>) -> Told {
     Ok(text)
 }
 
-/// Runs every case of a folder on the Rust as it is built here, and says which differ. A panic counts as a difference.
-fn replay(dir: &Path) -> Told {
-    std::panic::set_hook(Box::new(|_| {}));
-    let cases = file::read_all(dir)?;
-    let same = |answered: &Answered| {
-        let run = || stored::answered_plainly(answered.case.clone()).answers == answered.answers;
-        std::panic::catch_unwind(run).map_err(|_| "panics")
-    };
-    let mut other = Vec::new();
-    for answered in &cases {
-        match same(answered) {
-            Ok(true) => {}
-            Ok(false) => other.push(format!("{} differs", answered.case.what)),
-            Err(panics) => other.push(format!("{} {panics}", answered.case.what)),
-        }
-    }
-    // An answer that differs says more than a panic does.
-    let first = other.iter().find(|told| told.ends_with("differs")).or(other.first());
-    match first {
-        None => Ok(format!("{} cases agree", cases.len())),
-        Some(first) => Err(format!("{} of {} cases: {first}", other.len(), cases.len())),
-    }
-}
-
 /// Compares cases one by one; the first that differs is cut down and told.
 fn compare(cases: impl Iterator<Item = Case>) -> Told {
     let start = Instant::now();
     let mut told = start;
-    let mut pair = Pair::new();
+    let mut pair = Pair::default();
     let (mut count, mut events) = (0u64, 0u64);
     for case in cases {
         if !pair.agree(case.capacity, &case.trace, &subject::archive) {
@@ -160,6 +118,13 @@ fn seeded(seed: u64, cases: u64) -> impl Iterator<Item = Case> {
     })
 }
 
+/// The comparison at scale. The number of jobs is from outside, since it changes nothing that is told.
+fn scale(events: &str, seed: &str) -> Told {
+    let jobs = std::env::var("JOBS").unwrap_or("1".into());
+    let (events, seed, jobs) = (number(events)?, number(seed)?, number(&jobs)? as usize);
+    scale::all(Wanted { events, seed, jobs })
+}
+
 fn command(args: &[&str]) -> Told {
     match args {
         ["run", capacity] => run_once(capacity),
@@ -167,7 +132,10 @@ fn command(args: &[&str]) -> Told {
         ["stats", dir] => stats(Path::new(dir)),
         ["show", file] => show(file, None),
         ["show", file, place] => show(file, Some(number(place)? as usize)),
-        ["replay", dir] => replay(Path::new(dir)),
+        ["replay", dir] => run::replay::all(Path::new(dir)),
+        ["compare", "scale"] => scale("100000000", "1"),
+        ["compare", "scale", events] => scale(events, "1"),
+        ["compare", "scale", events, seed] => scale(events, seed),
         ["compare", "short"] => compare(exhaustive::short()),
         ["compare", "sequences", length] => compare(exhaustive::sequences(number(length)? as u32)),
         ["compare", dir] => compare(file::read_all(Path::new(dir))?.into_iter().map(|answered| answered.case)),

@@ -58,6 +58,11 @@ impl Script {
         (Load { now, frame: frame(id), waiter: waiter(id), priority }, hop(id))
     }
 
+    /// The id that the next enqueue draws.
+    pub fn drawn(&self) -> u32 {
+        self.drawn
+    }
+
     /// Says that the last enqueue was refused: it drew no id.
     pub fn refused(mut self) -> Self {
         self.drawn -= 1;

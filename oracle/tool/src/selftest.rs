@@ -4,6 +4,8 @@ use run::form::RESERVED;
 
 use crate::case::{self, Case, Size};
 use crate::compare::{self, Pair, Subject};
+use crate::flavour::FLAVOURS;
+use crate::scale::{self, Wanted};
 use crate::stats::Stats;
 use crate::{known, panics, stored, subject, words};
 
@@ -26,7 +28,7 @@ fn known_answers() -> Told {
 
 /// The judge against itself through C.
 fn agrees() -> Told {
-    let mut pair = Pair::new();
+    let mut pair = Pair::default();
     for seed in 0..300 {
         let case = case::of_seed(seed, Size::Any, true);
         if !pair.agree(case.capacity, &case.trace, &subject::archive) {
@@ -80,13 +82,13 @@ fn rest_of(trace: &[u8]) -> &[u8] {
 
 /// A subject that is wrong is found among generated cases, and its case cut down to few records.
 fn found(name: &str, subject: Subject) -> Result<(), String> {
-    let mut pair = Pair::new();
+    let mut pair = Pair::default();
     let wrong = |case: &Case| !pair.agree(case.capacity, &case.trace, subject);
     let mut cases = (0..500).map(|seed| case::of_seed(seed, Size::Any, false));
     let case = cases.find(wrong).ok_or_else(|| format!("{name} is not told apart"))?;
     let small = compare::shrink(&case, subject);
     let records = words::trace(&small.trace).len();
-    if records > 3 || Pair::new().agree(small.capacity, &small.trace, subject) {
+    if records > 3 || Pair::default().agree(small.capacity, &small.trace, subject) {
         return Err(format!("{name}: cut down to {records} records\n{}", compare::explain(&small, subject)));
     }
     Ok(())
@@ -110,7 +112,27 @@ fn well_met() -> Told {
     }
 }
 
+/// At scale every class of cases is met, the number of jobs changes nothing that is told, and a wrong run is found.
+fn at_scale() -> Told {
+    let wanted = |jobs| Wanted { events: 500_000, seed: 1, jobs };
+    let tally = scale::met(wanted(1), subject::archive)?;
+    if tally != scale::met(wanted(3), subject::archive)? {
+        return Err("three jobs tell another thing than one".into());
+    }
+    let flavours = FLAVOURS.len() + 2; // the clock that goes back, and what no maker made
+    let (shapes, rooms, contents, statuses) = (15, 5, 4, 6);
+    if tally.met() != (flavours + shapes + rooms + contents, statuses) {
+        return Err(format!("at scale not every class is met\n{}", tally.text()));
+    }
+    match scale::met(wanted(2), stray) {
+        Err(told) if told.starts_with("DIFFERENT") => {
+            Ok(format!("{} events at scale, every class met", tally.events()))
+        }
+        _ => Err("at scale a byte past the length is not told apart".into()),
+    }
+}
+
 pub fn all() -> Told {
-    let told = [known_answers()?, agrees()?, finds_faults()?, well_met()?, panics::all()?];
+    let told = [known_answers()?, agrees()?, finds_faults()?, well_met()?, at_scale()?, panics::all()?];
     Ok(told.join("\n"))
 }

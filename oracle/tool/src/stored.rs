@@ -75,7 +75,7 @@ fn rooms() -> Vec<Answered> {
 /// Short traces of all flavours, and some that are longer.
 fn mixed() -> Vec<Answered> {
     let small = (0..SMALL).map(|n| case::of_seed(SEED + n, Size::Small, true));
-    let medium = (0..MEDIUM).map(|n| case::of_flavour(SEED + SMALL + n, n as usize, 60));
+    let medium = (0..MEDIUM).map(|n| case::of_flavour(SEED + SMALL + n, n as usize, 60, true));
     small.chain(medium).map(answered).collect()
 }
 

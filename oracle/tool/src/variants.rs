@@ -6,7 +6,8 @@ use std::process::{Command, Output};
 use std::{env, fs};
 
 const DEFAULT: &str = "../../shared/docs/src";
-const OWN: [&str; 8] = ["attributes", "calls", "given", "run", "tool", "Cargo.toml", "Cargo.lock", "SOURCES.sha256"];
+const OWN: [&str; 9] =
+    ["attributes", "beside", "calls", "given", "run", "tool", "Cargo.toml", "Cargo.lock", "SOURCES.sha256"];
 
 /// One replacement: in a file, on a line where one is named, of a text that stands there exactly once.
 struct Edit {
@@ -110,7 +111,7 @@ impl Bench {
 
     fn build(&self) -> Result<(), String> {
         let mut cargo = Command::new("cargo");
-        cargo.args(["build", "--offline", "--locked", "--quiet", "-j1", "--profile", "variant", "-p", "oracle"]);
+        cargo.args(["build", "--offline", "--locked", "--quiet", "-j1", "--profile", "variant", "-p", "run"]);
         cargo.current_dir(&self.root).env("ZIGGURAT_SRC", self.root.join("src")).env("ORACLE_EDITED", "1");
         cargo.env("CARGO_TARGET_DIR", self.root.join("target")).env_remove("SENDS_ARCHIVE");
         let Output { status, stderr, .. } = cargo.output().map_err(|e| format!("cargo: {e}"))?;
@@ -120,8 +121,8 @@ impl Bench {
     /// Builds what is there and runs the cases: their count, or which differ.
     fn try_cases(&self, cases: &Path) -> Result<Result<String, String>, String> {
         self.build()?;
-        let mut oracle = Command::new(self.root.join("target/variant/oracle"));
-        let output = oracle.arg("replay").arg(cases).output().map_err(|e| e.to_string())?;
+        let mut replay = Command::new(self.root.join("target/variant/replay"));
+        let output = replay.arg(cases).output().map_err(|e| e.to_string())?;
         let text = |bytes: &[u8]| String::from_utf8_lossy(bytes).trim().to_string();
         Ok(if output.status.success() { Ok(text(&output.stdout)) } else { Err(text(&output.stderr)) })
     }

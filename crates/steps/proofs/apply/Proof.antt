@@ -44,7 +44,7 @@ transmitted-requires c κs = search needs
 
 signal-requires : tie.Need-signal-requires
 signal-requires c κs =
-    let s = c .before .before .before .before .before .before in
+    let s = c .before .before .before .before .before .before .before in
     (s .pre, past-apply (s .args .e) (c .before .before .before .before .before .match .keys6))
 
 returns : tie.Need-returns

@@ -43,20 +43,20 @@ quiet-requires-4 c κs = search needs
 
 returns : tie.Need-returns
 returns c =
-    let s = c .before .before .before .before .before .before in
+    let s = c .before .before .before .before .before .before .before in
     rw (c .before .before .before .before .e .given .1) (did-as (c .quiet .ensures ∙ ap (λ (x : Bool). quietly (s .args .c) (Replied x)) (c .before .is-held .ensures)) (does-quiet (s .pre .0) _ _))
 
 returns-2 : tie.Need-returns-2
 returns-2 c =
-    let s = c .before .before .before .before .before .before in
+    let s = c .before .before .before .before .before .before .before in
     rw (c .before .before .before .before .e2 .given .1) (did-as (c .quiet2 .ensures ∙ ap (λ (x : Bool). quietly (s .args .c) (Replied x)) (c .before .has-awaiting .ensures)) (does-quiet (s .pre .0) _ _))
 
 returns-3 : tie.Need-returns-3
-returns-3 c = rw (c .before .enum-told .given .1) (did-as (c .quiet3 .ensures) (does-quiet (c .before .before .before .pre .0) _ _))
+returns-3 c = rw (c .before .enum-told .given .1) (did-as (c .quiet3 .ensures) (does-quiet (c .before .before .before .before .pre .0) _ _))
 
 returns-4 : tie.Need-returns-4
 returns-4 c =
-    let s = c .before .before in
+    let s = c .before .before .before in
     does-as (past-ask _ _ _ (s .args .e) (s .pre .1) (c .before .match .keys4)) (did-as (c .quiet4 .ensures) (does-quiet (s .pre .0) _ _))
 
 pub ask-spec : {M : Type 1} → statement M

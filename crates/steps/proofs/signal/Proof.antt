@@ -5,6 +5,7 @@ use Rattle.steps.proofs.signal.Statement.{statement}
 use Rattle.steps.proofs.signal.Tie as tie
 use Rattle.steps.proofs.signal.Reads as reads
 use Rattle.steps.proofs.signal.Lts as lts
+use Rattle.events.proofs.routes.results_in.Reads as results-in-reads
 use Rattle.lent.proofs.devices.aps_ack_received.Reads as aps-ack-received-reads
 use Rattle.lent.proofs.devices.broadcast_delivered.Reads as broadcast-delivered-reads
 use Rattle.lent.proofs.devices.drop_indirect_unicasts.Reads as drop-indirect-unicasts-reads
@@ -50,6 +51,9 @@ fail-unrouted-requires c κs = search needs
 enum-known-e-6 : tie.Need-enum-known-e-6
 enum-known-e-6 c = search needs
 
+results-in-requires : tie.Need-results-in-requires
+results-in-requires c κs = search needs
+
 route-unicasts-requires : tie.Need-route-unicasts-requires
 route-unicasts-requires c κs = search needs
 
@@ -79,7 +83,7 @@ tick-requires c κs = search needs
 
 ask-requires : tie.Need-ask-requires
 ask-requires c κs =
-    let s = c .before .before .before .before .before .before in
+    let s = c .before .before .before .before .before .before .before in
     (s .pre .0, past-signal (s .args .e) (s .pre .1) (c .before .before .before .before .before .match .keys11))
 
 returns : tie.Need-returns
@@ -98,7 +102,8 @@ returns-5 : tie.Need-returns-5
 returns-5 c = rw (c .before .before .before .before .before .before .before .e5 .given .1) (c .fail-unrouted .ensures)
 
 returns-6 : tie.Need-returns-6
-returns-6 c = rw (c .before .before .before .before .before .before .before .e6 .given .1) (c .route-unicasts .ensures)
+returns-6 c =
+    rw (c .before .before .before .before .before .before .before .before .e6 .given .1, ← c .before .before .before .before .before .before .results-in .ensures) (c .route-unicasts .ensures)
 
 returns-7 : tie.Need-returns-7
 returns-7 c = rw (c .before .before .before .before .before .before .before .e7 .given .1) (c .broadcast-delivered .ensures)
@@ -130,6 +135,7 @@ signal-spec =
     enum-known-e-5
     fail-unrouted-requires
     enum-known-e-6
+    results-in-requires
     route-unicasts-requires
     enum-known-e-7
     broadcast-delivered-requires

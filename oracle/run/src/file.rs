@@ -3,13 +3,19 @@
 use std::fs;
 use std::path::{Path, PathBuf};
 
-use crate::case::Case;
-
 const MAGIC: &[u8; 8] = b"SENDS\0\0\x01";
 /// The file that names the cases of a folder's case files.
 pub const INDEX: &str = "INDEX.txt";
 /// The largest file that is written.
 pub const LIMIT: usize = 1 << 20;
+
+/// What is run, and into how much room.
+#[derive(Debug, Clone, PartialEq, Eq)]
+pub struct Case {
+    pub what: String,
+    pub capacity: usize,
+    pub trace: Vec<u8>,
+}
 
 /// A case with its answers.
 #[derive(Debug, Clone, PartialEq, Eq)]

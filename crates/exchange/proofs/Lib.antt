@@ -1,0 +1,6 @@
+-- The laws of a turn.
+pub mod Arms
+pub mod Answers
+pub mod Listings
+pub mod Worlds
+pub mod Somes

@@ -1,0 +1,5 @@
+-- What a replay is.
+pub mod Cases
+pub mod Counting
+pub mod Judging
+pub mod Reading

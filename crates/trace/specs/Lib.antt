@@ -1,0 +1,5 @@
+-- What a trace run is.
+pub mod Reading
+pub mod Run
+pub mod Claims
+pub mod Histories
