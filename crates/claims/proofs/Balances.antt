@@ -22,11 +22,11 @@ use Rattle.rows.proofs.Promises.{entries, count-append, count-map, settled-appe
 use Rattle.broadcasts.specs.declared.Best as cast
 use Rattle.broadcasts.specs.Rules as bro
 use Rattle.broadcasts.proofs.Entries as bros
-use Rattle.unicasts.specs.Rules as uni
-use Rattle.unicasts.specs.Lists as unis
-use Rattle.unicasts.specs.Members.{mapFits}
-use Rattle.unicasts.proofs.Claims as unc
-use Rattle.unicasts.proofs.Turns.{cancel-same, ack-same, report-same}
+use Rattle.sending.specs.Rules as uni
+use Rattle.sending.specs.Lists as unis
+use Rattle.sending.specs.Members.{mapFits}
+use Rattle.sending.proofs.Claims as unc
+use Rattle.sending.proofs.Turns.{cancel-same, ack-same, report-same}
 use Rattle.unrouted.specs.Rules as unr
 use Rattle.unrouted.proofs.Exact as unx
 use Rattle.model.specs.Types.{Opt32, None32, Some32, Unicast, Unrouted, Broadcast, Settings, Refusal, TimeTooLate, IdsExhausted, NoCopies, NoPlace, MapMalformed, Best, NoneReady, Ready, Loan, NoLoan, Lent, NoBest, BestIs, Lapsed, Bound, Retry, NotHeld, Declined, Granted, TxResult}

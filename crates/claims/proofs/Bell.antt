@@ -12,8 +12,8 @@ use Rattle.records.specs.Same.{sameAckKey, sameQuorumKey}
 use Rattle.records.proofs.Same.{itself-ack-key, itself-quorum-key}
 use Rattle.rows.specs.Lists.{All, lookup}
 use Rattle.rows.specs.Moves.{Turn, kept, told, atFirst, atFirstTold, firstOf, anyOf, hasId}
-use Rattle.unicasts.specs.Rules as uni
-use Rattle.unicasts.specs.Lists as unis
+use Rattle.sending.specs.Rules as uni
+use Rattle.sending.specs.Lists as unis
 use Rattle.broadcasts.specs.Rules as bro
 use Rattle.model.specs.Model.{Model, freshOf, withUnicasts, withBroadcasts, denied, done, answers}
 use Rattle.model.specs.Calls.{late, unless, turnUnicast, turnBroadcast}

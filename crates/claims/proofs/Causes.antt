@@ -19,8 +19,8 @@ use Rattle.rows.specs.Moves.{Turn, told, atFirstTold, firstOf, anyOf, count, ha
 use Rattle.rows.proofs.Promises.{first-has, told-found, told-missed}
 use Rattle.broadcasts.specs.declared.Best as cast
 use Rattle.broadcasts.specs.Rules as bro
-use Rattle.unicasts.specs.Rules as uni
-use Rattle.unicasts.specs.Lists as unis
+use Rattle.sending.specs.Rules as uni
+use Rattle.sending.specs.Lists as unis
 use Rattle.unrouted.specs.Rules as unr
 use Rattle.model.specs.Model.{Model, Effect, freshOf, withUnicasts, withUnrouted, withBroadcasts, denied, answers}
 use Rattle.model.specs.Calls.{late, unless, only, reached, matched, lapsed, entering, failing, routed, routing, routeOf, admitting, drawn, newUnicast, enqueueOf, newUnrouted, enqueueUnroutedOf, attemptLate, newBroadcast, enqueueBroadcastOf, turnUnicast, turnBroadcast, lendUnicast, lendBroadcast, unicastFirst, lendBest, dequeueOf, reportIn, transmittedOf, pollOf, ackOf, dropOf, deliveredOf, retryBy, retryOf, failOf, castBar, cancelOf, tickOf}

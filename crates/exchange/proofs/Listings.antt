@@ -24,10 +24,10 @@ use Rattle.records.specs.declared.Schedule.the-variants.{Once, PassiveAck, Fixe
 use Rattle.broadcasts.specs.declared.Awaited.{Awaited}
 use Rattle.broadcasts.specs.declared.Awaited.the-variants.{NotAwaited, Awaits}
 use Rattle.broadcasts.specs.Rules.{awaitedBy, awaitedHead, listed, awaitedOf}
-use Rattle.unicasts.specs.Members.{mapFits}
+use Rattle.sending.specs.Members.{mapFits}
 use Rattle.model.specs.Steps.{membersOf}
 use Rattle.model.proofs.Kepts.{all-map}
-use Rattle.unicasts.specs.declared.Book.{Book}
+use Rattle.sending.specs.declared.Book.{Book}
 use Rattle.lent.specs.declared.lists.Matched.{Matched}
 use Rattle.lent.specs.declared.lists.Matched.the-variants.{MapBarred, Members}
 use Rattle.lent.specs.Parts.{entryWords, Listed}

@@ -8,7 +8,7 @@ pub use Rattle.records.specs.declared.Broadcast.{Broadcast}
 pub use Rattle.records.specs.declared.Entry.{Entry}
 pub use Rattle.records.specs.declared.QuorumKey.{QuorumKey}
 pub use Rattle.records.specs.declared.Refusal.the-variants.{NoPlace, FieldMalformed}
-pub use Rattle.unicasts.specs.declared.Book.the-variants.{Shorts, Longs}
+pub use Rattle.sending.specs.declared.Book.the-variants.{Shorts, Longs}
 pub use Rattle.model.specs.declared.Counts.{Counts}
 pub use Rattle.model.specs.declared.Did.{Did}
 pub use Rattle.model.specs.declared.Abandoned.{Abandoned}

@@ -2,7 +2,7 @@
 use answers::Item;
 use lent::lists::Matched;
 use model::Counts;
-use unicasts::Book;
+use sending::Book;
 ghost use mathlib.Core.Path.{_≡_};
 ghost use Prim.Native.Nat.{_+_, _≤_};
 ghost use lib.ListN.{length, take};

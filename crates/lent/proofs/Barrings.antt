@@ -13,7 +13,7 @@ use Rattle.rows.specs.Lists.{findBy, placeAt}
 use Rattle.rows.specs.Moves.{Turn, anyOf}
 use Rattle.rows.specs.Moves.Turn.{Keeps}
 use Rattle.rows.proofs.Promises.{here-some, nowhere-none, find-first, first-found, first-missed}
-use Rattle.unicasts.specs.Rules.{sentCopy}
+use Rattle.sending.specs.Rules.{sentCopy}
 use Rattle.broadcasts.specs.declared.Outcome as casts
 use Rattle.broadcasts.specs.Calls.{Answered}
 use Rattle.broadcasts.specs.Rules.{inRadio, cancelBar}

@@ -23,7 +23,7 @@ use Rattle.broadcasts.specs.declared.Awaited.{Awaited}
 use Rattle.broadcasts.specs.declared.Awaited.the-variants.{NotAwaited, Awaits}
 use Rattle.broadcasts.specs.Rules.{awaitedHead, listed, awaitedOf}
 use Rattle.broadcasts.proofs.Scans.{rowAt, awaited-turn, awaited-end}
-use Rattle.unicasts.specs.Members.{mapFits, memberOf, isPast, leastWith, nextMember}
+use Rattle.sending.specs.Members.{mapFits, memberOf, isPast, leastWith, nextMember}
 use Rattle.model.specs.Calls.{only}
 use Rattle.model.specs.Steps.{adding, membersOf}
 use Rattle.model.proofs.Kepts.{insert-length}

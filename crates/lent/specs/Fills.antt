@@ -5,7 +5,7 @@ use mathlib.Core.List.{List}
 use lib.ListN.{length}
 use lib.Seq.{sets}
 use Rattle.records.specs.Pick.{pick}
-use Rattle.unicasts.specs.Members.{mapFits}
+use Rattle.sending.specs.Members.{mapFits}
 use Rattle.model.specs.Steps.{membersOf}
 use Rattle.lent.specs.Types.{Unicast, Book, Matched, MapBarred, Members}
 

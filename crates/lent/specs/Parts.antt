@@ -10,8 +10,8 @@ use Rattle.rows.specs.Lists.{lookup}
 use Rattle.rows.specs.Tables.{Holds}
 use Rattle.rows.specs.Moves.{firstOf, hasId}
 use Rattle.tables.specs.Layouts.{unicastTable, unroutedTable, destinationTable, broadcastTable}
-use Rattle.unicasts.specs.Lists.{cancelBar}
-use Rattle.unicasts.specs.Rules as uni
+use Rattle.sending.specs.Lists.{cancelBar}
+use Rattle.sending.specs.Rules as uni
 use Rattle.unrouted.specs.Rules as unr
 use Rattle.broadcasts.specs.Rules as bro
 use Rattle.lent.specs.Types.{Opt32, None64, Unicast, Unrouted, Broadcast, Settings, Entry, Refusal, NewUnicast, NewUnrouted, NewBroadcast, Answer, Denied, Issued, Counts, Did, Abandoned}

@@ -76,7 +76,7 @@ fn cancel_broadcast(
     requires { ⌜ SoundTables c (now w) (now v) (now d) (now b) ⌝ }
     ensures { λ r. ⌜ Does (cancelCast (lentModel c (now (w .entry)) (now (v .entry)) (now (d .entry)) (now (b .entry))) id) (now (told .entry)) (now (w .exit)) (now (v .exit)) (now (d .exit)) (now (b .exit)) (now (told .exit)) r ⌝ }
 {
-    if unicasts::asks::copy_in_radio(w, c.unicasts, id) {
+    if scanning::asks::copy_in_radio(w, c.unicasts, id) {
         return match tables::broadcast_rows::find(b, c.broadcasts, id) {
             Place::Nowhere => crate::denied(c, Refusal::NoSuchSend),
             Place::Here(_) => crate::denied(c, Refusal::InTheRadio),
@@ -169,7 +169,7 @@ pub fn next_wake(c: Counts, w: &[u64; 320], v: &[u64; 112], d: &[u64; 32], b: &[
     requires { ⌜ SoundTables c (now w) (now v) (now d) (now b) ⌝ }
     ensures { λ r. ⌜ r ≡ wakeOf (lentModel c (now (w .entry)) (now (v .entry)) (now (d .entry)) (now (b .entry))) ⌝ }
 {
-    let x = unicasts::asks::next_wake(w, c.unicasts);
+    let x = scanning::asks::next_wake(w, c.unicasts);
     let y = unrouted::next_wake(v, c.unrouted);
     let z = broadcasts::asks::next_wake(b, c.broadcasts);
     soonest_of(x, soonest_of(y, z))

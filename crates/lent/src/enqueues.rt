@@ -35,7 +35,7 @@ fn unicast_as(id: u32, u: NewUnicast, copy: Opt32, s: Settings, clock: u64) -> U
     let p = u.priority;
     let f = u.confirm;
     let a = u.poll_address;
-    unicasts::rules::admitted(
+    turning::rules::admitted(
         id,
         u.frame,
         u.waiter,

@@ -3,7 +3,7 @@
 use broadcasts::Awaited;
 use records::Entry;
 use records::Opt64;
-use unicasts::Book;
+use sending::Book;
 ghost use Prim.Native.Nat.{_+_, _≤_, _<_};
 ghost use mathlib.Core.List.{[], _∷_, map};
 ghost use Rattle.records.specs.Records.{unicastEntry, unroutedEntry, broadcastEntry, destinationAddress};
@@ -139,7 +139,7 @@ fn members(
     let mut last = Opt64::None64;
     let mut m: usize = 0;
     while m < 32 {
-        match unicasts::sets::next_member(w, n, book, eui, nwk, last) {
+        match scanning::sets::next_member(w, n, book, eui, nwk, last) {
             Opt64::None64 => {
                 return m;
             }
@@ -165,7 +165,7 @@ pub fn poll_addresses(
     requires { ⌜ Held unicastTable (now w) n ⌝ }
     ensures { λ r. ⌜ Matching book (now (eui .entry)) (now (nwk .entry)) (live unicastTable (now (w .entry)) n) (now (out .entry)) (now (out .exit)) r ⌝ }
 {
-    if unicasts::sets::map_fits(eui, nwk) {
+    if scanning::sets::map_fits(eui, nwk) {
         let m = members(w, n, book, eui, nwk, out);
         return Matched::Members(m);
     }

@@ -7,8 +7,8 @@ use model::Transmit;
 use records::Opt32;
 use records::Refusal;
 use records::TxResult;
-use unicasts::Best;
-use unicasts::Loan;
+use sending::Best;
+use sending::Loan;
 use unicasts::Outcome;
 ghost use mathlib.Core.Path.{_≡_};
 ghost use Prim.Native.Nat.{_≤_};
@@ -97,7 +97,7 @@ pub fn dequeue(
     if crate::too_late(clock) {
         return crate::denied(c, Refusal::TimeTooLate);
     }
-    let x = unicasts::asks::best_queued(w, c.unicasts, clock);
+    let x = scanning::asks::best_queued(w, c.unicasts, clock);
     let y = broadcasts::asks::best_queued(b, c.broadcasts, clock);
     match x {
         Best::NoneReady => match y {

@@ -118,7 +118,7 @@ fn routed_as(s: Settings, clock: u64, u: Unrouted, hop: u16, a: Address) -> Unic
 {
     let p = u.priority;
     let f = u.confirm;
-    unicasts::rules::admitted(
+    turning::rules::admitted(
         u.id,
         u.frame,
         u.waiter,

@@ -10,7 +10,7 @@ use lib.Dec.{ltb, eqb}
 use borrow.Author.Tests.{ltb-true, ltb-false, eqb-true, eqb-false, lt-ltb, le-ltb, eq-eqb, ne-eqb}
 use Rattle.records.specs.Pick.{pick}
 use Rattle.records.proofs.Cases.{never}
-use Rattle.unicasts.specs.Members.{risesAfter, risesAll, mapFits, mappedIn}
+use Rattle.sending.specs.Members.{risesAfter, risesAll, mapFits, mappedIn}
 use Rattle.listings.specs.Types.{Opt64, None64, Some64, Paired, NoPlaceLeft, Pairs}
 use Rattle.listings.specs.Maps.{placeIn, isThere, keysWith, shortsWith, MapSound, mapFull, pairsAfter, PairPut, Remapped}
 use Rattle.listings.proofs.Inserts.{front-same, front-on, front-set}

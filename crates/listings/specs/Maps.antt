@@ -7,7 +7,7 @@ use lib.ListN.{length, take}
 use lib.Seq.{sets}
 use lib.Dec.{ltb, eqb}
 use Rattle.records.specs.Pick.{pick}
-use Rattle.unicasts.specs.Members.{risesAll, mapFits, mappedIn}
+use Rattle.sending.specs.Members.{risesAll, mapFits, mappedIn}
 use Rattle.listings.specs.Types.{Some64, Paired, NoPlaceLeft, Pairs}
 
 -- ---- the place of an address

@@ -23,10 +23,10 @@ use Rattle.records.proofs.Cases.{lt-or-le, eq-or-ne, either, never}
 use Rattle.rows.specs.Lists.{All, Rising, lookup}
 use Rattle.rows.specs.Moves.{Turn, count, firstOf, anyOf, eachTold, atFirstTold, idOf, hasId}
 use Rattle.rows.proofs.Promises.{each-length, rising-lower}
-use Rattle.unicasts.specs.Rules as uni
+use Rattle.sending.specs.Rules as uni
 use Rattle.unrouted.specs.Rules as unr
 use Rattle.broadcasts.specs.Rules as bro
-use Rattle.unicasts.specs.Lists as unis
+use Rattle.sending.specs.Lists as unis
 use Rattle.broadcasts.specs.Claims.{Sane}
 use Rattle.broadcasts.specs.declared.Best as cast
 use Rattle.model.specs.Types.{None16, Opt32, None32, Some32, NewUnicast, NewUnrouted, NewBroadcast, Opt64, Settings, Unicast, Unrouted, Broadcast, FixedInterval, Best, NoneReady, Ready, NoBest, BestIs, Lapsed, Bound, Retry, NotHeld, Declined, Granted, Resolved, Reached, Unreached, Lender, FromUnicasts, FromBroadcasts, TxResult, Action, Refusal}

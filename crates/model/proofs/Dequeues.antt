@@ -16,10 +16,10 @@ use Rattle.records.specs.declared.Priority.{Priority}
 use Rattle.records.proofs.Cases.{either-by, never}
 use Rattle.rows.specs.Lists.{All, Rising, lookup}
 use Rattle.rows.specs.Moves.{atFirst, hasId}
-use Rattle.unicasts.specs.Rules as uni
-use Rattle.unicasts.specs.Lists as unis
-use Rattle.unicasts.specs.Claims as unic
-use Rattle.unicasts.proofs.Claims as unip
+use Rattle.sending.specs.Rules as uni
+use Rattle.sending.specs.Lists as unis
+use Rattle.sending.specs.Claims as unic
+use Rattle.sending.proofs.Claims as unip
 use Rattle.broadcasts.specs.Rules as bro
 use Rattle.broadcasts.specs.Claims as broc
 use Rattle.broadcasts.proofs.Bests as brop

@@ -15,10 +15,10 @@ use Rattle.records.specs.declared.Refusal.the-variants.{NotInTheRadio, OtherFra
 use Rattle.records.proofs.Cases.{either}
 use Rattle.rows.specs.Lists.{lookup}
 use Rattle.rows.specs.Moves.{anyOf, count, hasId}
-use Rattle.unicasts.specs.Rules.{sentCopy}
-use Rattle.unicasts.specs.Members.{mapFits}
-use Rattle.unicasts.specs.Rules as uni
-use Rattle.unicasts.specs.Lists as unis
+use Rattle.sending.specs.Rules.{sentCopy}
+use Rattle.sending.specs.Members.{mapFits}
+use Rattle.sending.specs.Rules as uni
+use Rattle.sending.specs.Lists as unis
 use Rattle.unrouted.specs.Rules as unr
 use Rattle.broadcasts.specs.Rules as bro
 use Rattle.broadcasts.specs.declared.Best as cast

@@ -18,9 +18,9 @@ use Rattle.rows.specs.Lists.{All, Rising, lookup, insertBy, removeBy}
 use Rattle.rows.specs.Moves.{Turn, kept, told, each, atFirst, anyOf, count, eachTold, idOf, hasId}
 use Rattle.rows.specs.Moves.Turn.{Keeps}
 use Rattle.rows.proofs.Promises.{rising-lower, each-rising, lookup-each, lookup-first-same, lookup-insert-same, lookup-insert-other, lookup-remove-same, told-found, after}
-use Rattle.unicasts.specs.Rules as uni
-use Rattle.unicasts.specs.Lists as unis
-use Rattle.unicasts.proofs.Turns.{copy-same}
+use Rattle.sending.specs.Rules as uni
+use Rattle.sending.specs.Lists as unis
+use Rattle.sending.proofs.Turns.{copy-same}
 use Rattle.unrouted.specs.Rules as unr
 use Rattle.unrouted.proofs.Exact.{sweep-same}
 use Rattle.broadcasts.specs.Rules as bro

@@ -22,9 +22,9 @@ use Rattle.broadcasts.specs.declared.Best as cast
 use Rattle.broadcasts.specs.Rules as bro
 use Rattle.broadcasts.proofs.Entries.{same-dequeue, same-cancel, same-report, same-delivered, same-tick}
 use Rattle.broadcasts.proofs.Sanes.{sane-admitted, sane-dequeue, sane-report, sane-delivered, sane-tick}
-use Rattle.unicasts.specs.Rules as uni
-use Rattle.unicasts.specs.Lists as unis
-use Rattle.unicasts.proofs.Turns.{lend-same, poll-same, cancel-same, ack-same, report-same, tick-same, drop-same, copy-same}
+use Rattle.sending.specs.Rules as uni
+use Rattle.sending.specs.Lists as unis
+use Rattle.sending.proofs.Turns.{lend-same, poll-same, cancel-same, ack-same, report-same, tick-same, drop-same, copy-same}
 use Rattle.unrouted.specs.Rules as unr
 use Rattle.unrouted.proofs.Exact.{sweep-same}
 use Rattle.model.specs.Types.{Opt16, Opt32, None32, Some32, Opt64, AckKey, QuorumKey, Unicast, Unrouted, Destination, Broadcast, Settings, TxResult, Refusal, Best, NoneReady, Ready, NoBest, BestIs, Lapsed, Bound, Retry, NotHeld, Declined, Granted, NewUnicast, NewUnrouted, NewBroadcast, Resolved, Lender, FromUnicasts, FromBroadcasts}

@@ -15,8 +15,8 @@ use Rattle.records.proofs.Cases.{either-by}
 use Rattle.rows.specs.Lists.{fold}
 use Rattle.rows.specs.Rows.{flat}
 use Rattle.tables.specs.Layouts.{broadcastHead}
-use Rattle.unicasts.specs.Rules as uni
-use Rattle.unicasts.specs.Lists as unis
+use Rattle.sending.specs.Rules as uni
+use Rattle.sending.specs.Lists as unis
 use Rattle.unrouted.specs.Rules as unr
 use Rattle.broadcasts.specs.Rules as bro
 use Rattle.model.specs.Types.{Opt64, None64, Some64, Schedule, Once, PassiveAck, FixedInterval, Broadcast}

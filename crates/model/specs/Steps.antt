@@ -7,8 +7,8 @@ use Rattle.rows.specs.Moves.{anyOf}
 use Rattle.model.specs.Types.{Opt16, Opt64, None64, Some64, Address, AckKey, QuorumKey, Unicast, Destination, Settings, TxResult, Entry, Action, MapMalformed, Book, Shorts, Longs, NewUnicast, NewUnrouted, NewBroadcast, Resolved, Lender, Answer, Denied, Replied}
 use Rattle.model.specs.Model.{Model, Effect}
 use Rattle.model.specs.Calls.{enqueueUnicastOf, enqueueCopyOf, enqueueUnroutedOf, enqueueBroadcastOf, dequeueOf, transmittedOf, pollOf, ackOf, retryOf, failOf, routeOf, deliveredOf, dropOf, cancelOf, tickOf, wakeOf, abandoned, emptied}
-use Rattle.unicasts.specs.Rules.{pends}
-use Rattle.unicasts.specs.Members.{mapFits, memberOf}
+use Rattle.sending.specs.Rules.{pends}
+use Rattle.sending.specs.Members.{mapFits, memberOf}
 use Rattle.unrouted.specs.Rules.{isHeld}
 use Rattle.broadcasts.specs.Rules.{awaitedOf}
 

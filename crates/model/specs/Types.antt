@@ -22,12 +22,12 @@ pub use Rattle.records.specs.declared.Action.{Action}
 pub use Rattle.records.specs.declared.Action.the-variants.{Settled}
 pub use Rattle.records.specs.declared.Refusal.{Refusal}
 pub use Rattle.records.specs.declared.Refusal.the-variants.{TimeTooLate, IdsExhausted, NoCopies, NoPlace, NoSuchSend, InTheRadio, DestinationNotHeld, ResultsMismatch, MapMalformed}
-pub use Rattle.unicasts.specs.declared.Best.{Best}
-pub use Rattle.unicasts.specs.declared.Best.the-variants.{NoneReady, Ready}
-pub use Rattle.unicasts.specs.declared.Loan.{Loan}
-pub use Rattle.unicasts.specs.declared.Loan.the-variants.{NoLoan, Lent}
-pub use Rattle.unicasts.specs.declared.Book.{Book}
-pub use Rattle.unicasts.specs.declared.Book.the-variants.{Shorts, Longs}
+pub use Rattle.sending.specs.declared.Best.{Best}
+pub use Rattle.sending.specs.declared.Best.the-variants.{NoneReady, Ready}
+pub use Rattle.sending.specs.declared.Loan.{Loan}
+pub use Rattle.sending.specs.declared.Loan.the-variants.{NoLoan, Lent}
+pub use Rattle.sending.specs.declared.Book.{Book}
+pub use Rattle.sending.specs.declared.Book.the-variants.{Shorts, Longs}
 pub use Rattle.broadcasts.specs.declared.Best.the-variants.{NoBest, BestIs}
 pub use Rattle.unrouted.specs.declared.Which.the-variants.{Lapsed, Bound}
 pub use Rattle.unrouted.specs.declared.Retry.{Retry}

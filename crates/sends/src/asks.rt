@@ -5,7 +5,7 @@ use records::Address;
 use records::Opt64;
 ghost use mathlib.Core.Path.{_≡_};
 ghost use Rattle.rows.specs.Moves.{anyOf};
-ghost use Rattle.unicasts.specs.Rules.{pends};
+ghost use Rattle.sending.specs.Rules.{pends};
 ghost use Rattle.unrouted.specs.Rules.{isHeld};
 ghost use Rattle.model.specs.Model.{freshOf, modelOf, sendsOf};
 ghost use Rattle.model.specs.Calls.{wakeOf};
@@ -61,5 +61,5 @@ pub fn has_unicast_awaiting_poll(s: Sends, a: Address) -> bool
 {
     let c = s.counts;
     let w = s.unicasts;
-    unicasts::asks::has_awaiting(&w, c.unicasts, a)
+    scanning::asks::has_awaiting(&w, c.unicasts, a)
 }

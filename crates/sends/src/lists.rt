@@ -2,7 +2,7 @@
 use lent::lists::Matched;
 use model::Emptied;
 use model::Sends;
-use unicasts::Book;
+use sending::Book;
 ghost use mathlib.Core.Path.{_≡_};
 ghost use mathlib.Core.List.{map};
 ghost use Rattle.codes.specs.Codes.{quorumWord};

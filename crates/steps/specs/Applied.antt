@@ -3,7 +3,7 @@ use Prim.Native.Nat.{ℕ}
 use mathlib.Core.List.{List}
 use mathlib.Core.Option.{Option, none, some}
 use Rattle.rows.specs.Moves.{anyOf}
-use Rattle.unicasts.specs.Rules.{pends}
+use Rattle.sending.specs.Rules.{pends}
 use Rattle.unrouted.specs.Rules.{isHeld}
 use Rattle.model.specs.Model.{Model, Effect, denied, answers}
 use Rattle.model.specs.Calls.{enqueueUnicastOf, enqueueCopyOf, enqueueUnroutedOf, enqueueBroadcastOf, dequeueOf, transmittedOf, pollOf, ackOf, retryOf, failOf, routeOf, deliveredOf, dropOf, cancelOf, tickOf}

@@ -46,7 +46,7 @@ fn ask(
             quiet(c, Answer::Replied(x))
         }
         Event::OnHasAwaiting(a) => {
-            let x = unicasts::asks::has_awaiting(w, c.unicasts, a);
+            let x = scanning::asks::has_awaiting(w, c.unicasts, a);
             quiet(c, Answer::Replied(x))
         }
         Event::Malformed => quiet(c, Answer::Denied(Refusal::FieldMalformed)),

@@ -7,7 +7,10 @@ use mathlib.Core.List.{List}
 use mathlib.Core.Option.{Option}
 use Rattle.rows.specs.Moves.{Turn}
 use Rattle.actions.proofs.Ones.{turned-one}
-use Rattle.unicasts.specs.Types.{Opt16, Opt64, Unicast, Refusal, Loan, Outcome, Refused, Done}
+use Rattle.sending.specs.Types.{Opt16, Opt64, Unicast, Refusal}
+use Rattle.sending.specs.declared.Loan.{Loan}
+use Rattle.unicasts.specs.declared.Outcome.{Outcome}
+use Rattle.unicasts.specs.declared.Outcome.the-variants.{Refused, Done}
 use Rattle.unicasts.specs.Calls.{PolledOne, Dequeued, barIn, AfterCall, Called}
 
 module _ {ws ws₁ ws₂ : List ℕ} {n : ℕ} where

@@ -9,9 +9,12 @@ use Rattle.rows.specs.Tables.{live, Holds}
 use Rattle.rows.specs.Moves.{Turn, firstOf, anyOf, atFirst, hasId}
 use Rattle.tables.specs.Layouts.{unicastTable}
 use Rattle.actions.specs.Calls.{Turned}
-use Rattle.unicasts.specs.Types.{Opt16, Opt64, Unicast, Refusal, Loan, Outcome, Refused, Done}
-use Rattle.unicasts.specs.Rules.{awaits, pollTurn, lendTurn}
-use Rattle.unicasts.specs.Lists.{loanOf}
+use Rattle.sending.specs.Types.{Opt16, Opt64, Unicast, Refusal}
+use Rattle.sending.specs.declared.Loan.{Loan}
+use Rattle.unicasts.specs.declared.Outcome.{Outcome}
+use Rattle.unicasts.specs.declared.Outcome.the-variants.{Refused, Done}
+use Rattle.sending.specs.Rules.{awaits, pollTurn, lendTurn}
+use Rattle.sending.specs.Lists.{loanOf}
 
 -- the first that awaits the poll has its turn, and the answer is whether there is one
 pub record PolledOne (eui : Opt64) (nwk : Opt16) (now : ℕ) (ws : List ℕ) (n : ℕ) (ws′ : List ℕ) (r : Bool) : Type 0 where

@@ -1,11 +1,6 @@
 // The calls that change the lent table, in place; what they tell goes to the lent buffer.
 use crate::Counts;
-use crate::Due;
-use crate::Loan;
 use crate::Outcome;
-use crate::Sought;
-use crate::UnicastTurn;
-use crate::Which;
 use records::AckKey;
 use records::Opt16;
 use records::Opt64;
@@ -16,6 +11,11 @@ use records::Unicast;
 use records::Verdict;
 use rows::Inserted;
 use rows::Place;
+use sending::Due;
+use sending::Loan;
+use sending::Sought;
+use sending::UnicastTurn;
+use sending::Which;
 ghost use mathlib.Core.Path.{_≡_};
 ghost use Prim.Native.Nat.{_+_, _*_, _-_, _≤_, _<_};
 ghost use mathlib.Core.List.{[]};
@@ -28,8 +28,8 @@ ghost use Rattle.rows.specs.Moves.Turn.{Settles};
 ghost use Rattle.rows.specs.Moves.{Same};
 ghost use Rattle.tables.specs.Layouts.{unicastTable};
 ghost use Rattle.actions.specs.Calls.{Swept, Turned, Played};
-ghost use Rattle.unicasts.specs.Rules.{turnU, withStage, keyed, ackTurn, reportTurn, cancelTurn, tickTurn, dropTurn, copyTurn, sweepTurn};
-ghost use Rattle.unicasts.specs.Lists.{reportBar, cancelBar};
+ghost use Rattle.sending.specs.Rules.{turnU, withStage, keyed, ackTurn, reportTurn, cancelTurn, tickTurn, dropTurn, copyTurn, sweepTurn};
+ghost use Rattle.sending.specs.Lists.{reportBar, cancelBar};
 ghost use Rattle.unicasts.specs.Calls.{PolledOne, Dequeued, Called};
 
 // The send at place i is taken out, and told as over.
@@ -109,11 +109,11 @@ pub fn poll(w: &mut [u64; 320], n: usize, eui: Opt64, nwk: Opt16, clock: u64) ->
     requires { ⌜ Held unicastTable (now w) n ⌝ }
     ensures { λ r. ⌜ PolledOne eui nwk clock (now (w .entry)) n (now (w .exit)) r ⌝ }
 {
-    match crate::asks::first_such(w, n, Sought::Polled(eui, nwk, clock)) {
+    match scanning::asks::first_such(w, n, Sought::Polled(eui, nwk, clock)) {
         Place::Nowhere => false,
         Place::Here(i) => {
             let u = tables::unicast_rows::load(w, i);
-            let v = crate::rules::polled(u);
+            let v = turning::rules::polled(u);
             tables::unicast_rows::store(w, n, i, v);
             true
         }
@@ -130,8 +130,8 @@ pub fn dequeue(w: &mut [u64; 320], n: usize, id: u32) -> Loan
         Place::Here(i) => {
             let u = tables::unicast_rows::load(w, i);
             let a = u.poll_address;
-            let pending = crate::asks::frame_pending(w, n, id, a);
-            let v = crate::rules::staged(u, Stage::Transmitting(false));
+            let pending = scanning::asks::frame_pending(w, n, id, a);
+            let v = turning::rules::staged(u, Stage::Transmitting(false));
             tables::unicast_rows::store(w, n, i, v);
             Loan::Lent(u.frame, u.next_hop, pending)
         }
@@ -144,11 +144,11 @@ pub fn ack(w: &mut [u64; 320], n: usize, told: &mut [u64; 560], m: usize, key: A
     requires { ⌜ m + 2 ≤ 112 ⌝ }
     ensures { λ r. ⌜ Turned unicastTable unicastEntry (keyed key) ackTurn (now (w .entry)) n (now (told .entry)) m (now (w .exit)) (r .sends) (now (told .exit)) (r .told) ⌝ }
 {
-    match crate::asks::first_keyed(w, n, key) {
+    match scanning::asks::first_keyed(w, n, key) {
         Place::Nowhere => Counts { sends: n, told: m },
         Place::Here(i) => {
             let u = tables::unicast_rows::load(w, i);
-            let t = crate::rules::ack_turn(u);
+            let t = turning::rules::ack_turn(u);
             play(w, n, told, m, i, u, t)
         }
     }
@@ -176,9 +176,9 @@ pub fn report(
         Place::Here(i) => {
             let u = tables::unicast_rows::load(w, i);
             let s = u.stage;
-            if crate::rules::is_sending(s) {
+            if turning::rules::is_sending(s) {
                 if u.frame == frame {
-                    let t = crate::rules::report_turn(u, result, clock, delay);
+                    let t = turning::rules::report_turn(u, result, clock, delay);
                     let c = play(w, n, told, m, i, u, t);
                     return Outcome::Done(c.sends, c.told);
                 }
@@ -200,10 +200,10 @@ pub fn cancel(w: &mut [u64; 320], n: usize, told: &mut [u64; 560], m: usize, id:
         Place::Here(i) => {
             let u = tables::unicast_rows::load(w, i);
             let s = u.stage;
-            if crate::rules::is_sending(s) {
+            if turning::rules::is_sending(s) {
                 return Outcome::Refused(Refusal::InTheRadio);
             }
-            let t = crate::rules::cancel_turn(u);
+            let t = turning::rules::cancel_turn(u);
             let c = play(w, n, told, m, i, u, t);
             Outcome::Done(c.sends, c.told)
         }
@@ -217,7 +217,7 @@ fn requeue(w: &mut [u64; 320], n: usize, i: usize)
     ensures { λ _. ⌜ Holds unicastTable (now (w .exit)) n (set (live unicastTable (now (w .entry)) n) i (withStage (getD (rowsOf unicastTable (now (w .entry))) i blankUnicast) Queued)) ⌝ }
 {
     let u = tables::unicast_rows::load(w, i);
-    let v = crate::rules::staged(u, Stage::Queued);
+    let v = turning::rules::staged(u, Stage::Queued);
     tables::unicast_rows::store(w, n, i, v);
 }
 
@@ -231,7 +231,7 @@ fn sweep(w: &mut [u64; 320], sends: usize, told: &mut [u64; 560], at: usize, whi
     let mut m = at;
     let mut i: usize = 0;
     while i < n {
-        match crate::rules::due_of(tables::unicast_rows::head(w, i), which) {
+        match asking::rules::due_of(tables::unicast_rows::head(w, i), which) {
             Due::Leave => {
                 i = i + 1;
             }

@@ -1,59 +1,7 @@
-// The rules of unicasts with a known next hop: on one send, and on the lent table of them.
-use records::Address;
-use records::Opt16;
-use records::Opt64;
-use records::Priority;
+// The calls on the lent table of unicasts with a known next hop.
 use records::Refusal;
-use records::SendFailure;
-use records::Unicast;
-use records::Verdict;
 
-pub mod asks;
 pub mod calls;
-pub mod rules;
-pub mod sets;
-
-// What becomes of one send: it stays, it stays and its handoff is told, or it is settled.
-pub enum UnicastTurn {
-    KeepsU(Unicast),
-    HandsOffU(Unicast),
-    SettlesU(bool, Verdict, Opt16),
-}
-
-// What a sweep makes of one send: nothing, a retry is queued, or it fails, its handoff told again first or not.
-pub enum Due {
-    Leave,
-    Requeue,
-    Finish(bool, SendFailure),
-}
-
-// Which sends a sweep is for: a tick at a time, a device that is no child any more, or the copies of a broadcast.
-pub enum Which {
-    Lapsed(u64),
-    Dropped(Opt64, u16),
-    CopyOf(u32),
-}
-
-// What a scan seeks: a frame for a poll at a time under either address, one pending for an address, one besides a send, or a
-// broadcast's copy in the radio.
-pub enum Sought {
-    Polled(Opt64, Opt16, u64),
-    Pending(Address),
-    Beside(u32, Address),
-    SentCopy(u32),
-}
-
-// The best of the queued sends, by id, and its priority.
-pub enum Best {
-    NoneReady,
-    Ready(u32, Priority),
-}
-
-// What goes to the radio: the frame, its next hop, and whether another frame is pending for the device.
-pub enum Loan {
-    NoLoan,
-    Lent(u32, u16, bool),
-}
 
 // What a call by id answers: why it is refused, or how many sends are left and the next place in the buffer.
 pub enum Outcome {
@@ -65,17 +13,4 @@ pub enum Outcome {
 pub struct Counts {
     pub sends: usize,
     pub told: usize,
-}
-
-// Which source-match set: of short addresses, or of extended ones.
-pub enum Book {
-    Shorts,
-    Longs,
-}
-
-// What a call on a set answers: why it is refused, that no member is left, or the next one.
-pub enum Listing {
-    Barred(Refusal),
-    NoMore,
-    NextIs(u64),
 }

@@ -11,7 +11,7 @@ use Rattle.steps.proofs.ask.Tie as tie
 use Rattle.steps.proofs.ask.Reads as reads
 use Rattle.steps.proofs.ask.Lts as lts
 use Rattle.steps.proofs.quiet.Reads as quiet-reads
-use Rattle.unicasts.proofs.asks.has_awaiting.Reads as has-awaiting-reads
+use Rattle.scanning.proofs.asks.has_awaiting.Reads as has-awaiting-reads
 use Rattle.unrouted.proofs.is_held.Reads as is-held-reads
 
 enum-known-e : tie.Need-enum-known-e

@@ -10,7 +10,7 @@ use Rattle.rows.specs.Moves.{anyOf, hasId}
 use Rattle.rows.proofs.Promises.{here-some, nowhere-none, hit-lookup, miss-lookup, held-holds}
 use Rattle.tables.specs.Layouts.{unicastTable, broadcastTable}
 use Rattle.actions.proofs.Lines.{told-append}
-use Rattle.unicasts.specs.Rules.{sentCopy}
+use Rattle.sending.specs.Rules.{sentCopy}
 use Rattle.broadcasts.specs.Rules.{cancelTurn}
 use Rattle.broadcasts.specs.declared.Outcome.the-variants.{Refused, Done}
 use Rattle.model.specs.Calls.{castBar, cancelBroadcast}
@@ -26,7 +26,7 @@ use Rattle.lent.proofs.ends.cancel_broadcast.Lts as lts
 use Rattle.broadcasts.proofs.moves.cancel.Reads as cancel-reads
 use Rattle.lent.proofs.denied.Reads as denied-reads
 use Rattle.tables.proofs.broadcast_rows.find.Reads as find-reads
-use Rattle.unicasts.proofs.asks.copy_in_radio.Reads as copy-in-radio-reads
+use Rattle.scanning.proofs.asks.copy_in_radio.Reads as copy-in-radio-reads
 use Rattle.unicasts.proofs.calls.cancel_copies.Reads as cancel-copies-reads
 
 copy-in-radio-requires : tie.Need-copy-in-radio-requires

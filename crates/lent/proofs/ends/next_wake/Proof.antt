@@ -7,7 +7,7 @@ use Rattle.lent.proofs.ends.next_wake.Reads as reads
 use Rattle.lent.proofs.ends.next_wake.Lts as lts
 use Rattle.broadcasts.proofs.asks.next_wake.Reads as asks-next-wake-reads
 use Rattle.lent.proofs.ends.soonest_of.Reads as soonest-of-reads
-use Rattle.unicasts.proofs.asks.next_wake.Reads as asks-next-wake-reads′
+use Rattle.scanning.proofs.asks.next_wake.Reads as asks-next-wake-reads′
 use Rattle.unrouted.proofs.next_wake.Reads as next-wake-reads
 
 next-wake-requires : tie.Need-next-wake-requires

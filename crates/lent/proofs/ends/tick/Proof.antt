@@ -5,7 +5,7 @@ use Rattle.records.specs.Records.{unicastEntry}
 use Rattle.rows.specs.Tables.{live}
 use Rattle.rows.proofs.Promises.{held-length, held-holds}
 use Rattle.tables.specs.Layouts.{unicastTable, unroutedTable}
-use Rattle.unicasts.specs.Rules.{tickTurn}
+use Rattle.sending.specs.Rules.{tickTurn}
 use Rattle.unrouted.specs.declared.Which.the-variants.{Lapsed}
 use Rattle.actions.proofs.Lines.{told-append}
 use Rattle.model.specs.Calls.{late}

@@ -13,7 +13,7 @@ use Rattle.lent.proofs.lists.members.Statement.{statement}
 use Rattle.lent.proofs.lists.members.Tie as tie
 use Rattle.lent.proofs.lists.members.Reads as reads
 use Rattle.lent.proofs.lists.members.Lts as lts
-use Rattle.unicasts.proofs.sets.next_member.Reads as next-member-reads
+use Rattle.scanning.proofs.sets.next_member.Reads as next-member-reads
 
 abbrev Inv-loop : tie.InvT-loop
 Inv-loop w n book eui nwk out₀ last₀ m₀ out last m =

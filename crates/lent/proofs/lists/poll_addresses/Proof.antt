@@ -6,7 +6,7 @@ use Rattle.lent.proofs.lists.poll_addresses.Tie as tie
 use Rattle.lent.proofs.lists.poll_addresses.Reads as reads
 use Rattle.lent.proofs.lists.poll_addresses.Lts as lts
 use Rattle.lent.proofs.lists.members.Reads as members-reads
-use Rattle.unicasts.proofs.sets.map_fits.Reads as map-fits-reads
+use Rattle.scanning.proofs.sets.map_fits.Reads as map-fits-reads
 
 map-fits-requires : tie.Need-map-fits-requires
 map-fits-requires c κs = search needs

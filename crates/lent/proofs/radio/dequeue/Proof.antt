@@ -2,7 +2,7 @@ use mathlib.Core.Path.{_≡_, sym, _∙_}
 use mathlib.Core.Bool.{true, false}
 use Rattle.rows.specs.Tables.{live}
 use Rattle.tables.specs.Layouts.{unicastTable, broadcastTable}
-use Rattle.unicasts.specs.Lists as uni
+use Rattle.sending.specs.Lists as uni
 use Rattle.broadcasts.specs.Rules as bro
 use Rattle.model.specs.Calls.{late}
 use Rattle.lent.specs.Types.{TimeTooLate, NothingQueued, NoneReady, NoBest}
@@ -21,7 +21,7 @@ use Rattle.lent.proofs.radio.lend_unicast.Reads as lend-unicast-reads
 use Rattle.lent.proofs.radio.unicast_first.Reads as unicast-first-reads
 use Rattle.lent.proofs.too_late.Reads as too-late-reads
 use Rattle.records.proofs.priorities.rank.Reads as rank-reads
-use Rattle.unicasts.proofs.asks.best_queued.Reads as asks-best-queued-reads′
+use Rattle.scanning.proofs.asks.best_queued.Reads as asks-best-queued-reads′
 
 too-late-requires : tie.Need-too-late-requires
 too-late-requires c κs = search needs

@@ -1,7 +1,8 @@
-use Rattle.unicasts.proofs.Turns.{ack-same}
+use Rattle.sending.proofs.Turns.{ack-same}
 use Rattle.actions.proofs.Sweeps.{turn-found, turn-missed}
-use Rattle.unicasts.specs.Rules.{keyed, ackTurn}
-use Rattle.unicasts.proofs.Tables.{scan-some, scan-none, first-room, first-lt, played-as}
+use Rattle.sending.specs.Rules.{keyed, ackTurn}
+use Rattle.scanning.proofs.Scans.{scan-some, scan-none, first-room, first-lt}
+use Rattle.unicasts.proofs.Tables.{played-as}
 use mathlib.Core.Path.{ap, _∙_}
 use borrow.Author.Needs.{needs}
 use Rattle.unicasts.proofs.calls.ack.Statement.{statement}
@@ -9,9 +10,9 @@ use Rattle.unicasts.proofs.calls.ack.Tie as tie
 use Rattle.unicasts.proofs.calls.ack.Reads as reads
 use Rattle.unicasts.proofs.calls.ack.Lts as lts
 use Rattle.tables.proofs.unicast_rows.load.Reads as load-reads
-use Rattle.unicasts.proofs.asks.first_keyed.Reads as first-keyed-reads
+use Rattle.scanning.proofs.asks.first_keyed.Reads as first-keyed-reads
 use Rattle.unicasts.proofs.calls.play.Reads as play-reads
-use Rattle.unicasts.proofs.rules.ack_turn.Reads as ack-turn-reads
+use Rattle.turning.proofs.rules.ack_turn.Reads as ack-turn-reads
 
 first-keyed-requires : tie.Need-first-keyed-requires
 first-keyed-requires c κs = search needs

@@ -1,8 +1,9 @@
-use Rattle.unicasts.specs.Rules.{cancelTurn}
-use Rattle.unicasts.specs.Types.{NoSuchSend, InTheRadio}
+use Rattle.sending.specs.Rules.{cancelTurn}
+use Rattle.sending.specs.Types.{NoSuchSend, InTheRadio}
 use Rattle.rows.specs.Moves.{hasId}
-use Rattle.unicasts.proofs.Bars.{sending-row, cancel-sending, cancel-idle}
-use Rattle.unicasts.proofs.Tables.{rowAt, find-here, find-nowhere, first-lt, first-room, first-row, first-none, played-as, refused, done}
+use Rattle.sending.proofs.Bars.{sending-row, cancel-sending, cancel-idle}
+use Rattle.scanning.proofs.Scans.{rowAt, find-here, find-nowhere, first-lt, first-room, first-row, first-none}
+use Rattle.unicasts.proofs.Tables.{played-as, refused, done}
 use Rattle.records.specs.Records.{unicastEntry}
 use mathlib.Core.Path.{refl, ap, _∙_}
 use borrow.Author.Needs.{needs}
@@ -13,8 +14,8 @@ use Rattle.unicasts.proofs.calls.cancel.Lts as lts
 use Rattle.tables.proofs.unicast_rows.find.Reads as find-reads
 use Rattle.tables.proofs.unicast_rows.load.Reads as load-reads
 use Rattle.unicasts.proofs.calls.play.Reads as play-reads
-use Rattle.unicasts.proofs.rules.cancel_turn.Reads as cancel-turn-reads
-use Rattle.unicasts.proofs.rules.is_sending.Reads as is-sending-reads
+use Rattle.turning.proofs.rules.cancel_turn.Reads as cancel-turn-reads
+use Rattle.turning.proofs.rules.is_sending.Reads as is-sending-reads
 
 find-requires : tie.Need-find-requires
 find-requires c κs = search needs

@@ -1,4 +1,4 @@
-use Rattle.unicasts.proofs.Turns.{sweep-copy}
+use Rattle.sending.proofs.Turns.{sweep-copy}
 use Rattle.unicasts.proofs.Tables.{swept-as}
 use borrow.Author.Needs.{needs}
 use Rattle.unicasts.proofs.calls.cancel_copies.Statement.{statement}

@@ -1,8 +1,9 @@
 use mathlib.Core.Bool.{false}
-use Rattle.unicasts.specs.Lists.{loanBy}
-use Rattle.unicasts.specs.Types.{Unicast, Transmitting}
-use Rattle.unicasts.specs.Rules.{withStage, lendTurn}
-use Rattle.unicasts.proofs.Tables.{sends, find-here, find-nowhere, first-room, first-lt, first-row, first-none, stands, first-stored, first-stays, lent-is}
+use Rattle.sending.specs.Lists.{loanBy}
+use Rattle.sending.specs.Types.{Unicast, Transmitting}
+use Rattle.sending.specs.Rules.{withStage, lendTurn}
+use Rattle.scanning.proofs.Scans.{sends, find-here, find-nowhere, first-room, first-lt, first-row, first-none, first-stored, first-stays}
+use Rattle.unicasts.proofs.Tables.{stands, lent-is}
 use Rattle.rows.specs.Moves.{hasId}
 use Rattle.records.specs.Records.{unicastEntry}
 use mathlib.Core.Path.{ap, sym, _∙_}
@@ -14,8 +15,8 @@ use Rattle.unicasts.proofs.calls.dequeue.Lts as lts
 use Rattle.tables.proofs.unicast_rows.find.Reads as find-reads
 use Rattle.tables.proofs.unicast_rows.load.Reads as load-reads
 use Rattle.tables.proofs.unicast_rows.store.Reads as store-reads
-use Rattle.unicasts.proofs.asks.frame_pending.Reads as frame-pending-reads
-use Rattle.unicasts.proofs.rules.staged.Reads as staged-reads
+use Rattle.scanning.proofs.asks.frame_pending.Reads as frame-pending-reads
+use Rattle.turning.proofs.rules.staged.Reads as staged-reads
 
 find-requires : tie.Need-find-requires
 find-requires c κs = search needs

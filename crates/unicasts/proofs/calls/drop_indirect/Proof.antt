@@ -1,4 +1,4 @@
-use Rattle.unicasts.proofs.Turns.{sweep-drop}
+use Rattle.sending.proofs.Turns.{sweep-drop}
 use Rattle.unicasts.proofs.Tables.{swept-as}
 use borrow.Author.Needs.{needs}
 use Rattle.unicasts.proofs.calls.drop_indirect.Statement.{statement}

@@ -1,5 +1,5 @@
 use Rattle.actions.proofs.Lines.{told-none}
-use Rattle.unicasts.specs.Rules.{turnU}
+use Rattle.sending.specs.Rules.{turnU}
 use Rattle.unicasts.proofs.Tables.{stands, kept-entry, handed-entry, played-as}
 use mathlib.Core.Path.{refl, ap, sym}
 use borrow.Author.Needs.{needs}

@@ -1,5 +1,6 @@
-use Rattle.unicasts.specs.Rules.{awaits, polledOf, pollTurn}
-use Rattle.unicasts.proofs.Tables.{scan-some, scan-none, first-room, first-lt, stands, any-there, any-none, first-stored, first-stays}
+use Rattle.sending.specs.Rules.{awaits, polledOf, pollTurn}
+use Rattle.scanning.proofs.Scans.{scan-some, scan-none, first-room, first-lt, any-there, any-none, first-stored, first-stays}
+use Rattle.unicasts.proofs.Tables.{stands}
 use Rattle.records.specs.Records.{unicastEntry}
 use mathlib.Core.Path.{ap, _∙_}
 use borrow.Author.Needs.{needs}
@@ -9,8 +10,8 @@ use Rattle.unicasts.proofs.calls.poll.Reads as reads
 use Rattle.unicasts.proofs.calls.poll.Lts as lts
 use Rattle.tables.proofs.unicast_rows.load.Reads as load-reads
 use Rattle.tables.proofs.unicast_rows.store.Reads as store-reads
-use Rattle.unicasts.proofs.asks.first_such.Reads as first-such-reads
-use Rattle.unicasts.proofs.rules.polled.Reads as polled-reads
+use Rattle.scanning.proofs.asks.first_such.Reads as first-such-reads
+use Rattle.turning.proofs.rules.polled.Reads as polled-reads
 
 first-such-requires : tie.Need-first-such-requires
 first-such-requires c κs = search needs

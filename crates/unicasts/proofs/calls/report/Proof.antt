@@ -1,9 +1,10 @@
-use Rattle.unicasts.specs.Rules.{reportTurn}
-use Rattle.unicasts.specs.Types.{NoSuchSend, NotInTheRadio, OtherFrame}
+use Rattle.sending.specs.Rules.{reportTurn}
+use Rattle.sending.specs.Types.{NoSuchSend, NotInTheRadio, OtherFrame}
 use Rattle.rows.specs.Moves.{hasId}
-use Rattle.unicasts.proofs.Bars.{sending-row, report-frame, report-other, report-idle}
-use Rattle.unicasts.proofs.Turns.{report-same}
-use Rattle.unicasts.proofs.Tables.{rowAt, find-here, find-nowhere, first-lt, first-room, first-row, first-none, played-as, refused, done}
+use Rattle.sending.proofs.Bars.{sending-row, report-frame, report-other, report-idle}
+use Rattle.sending.proofs.Turns.{report-same}
+use Rattle.scanning.proofs.Scans.{rowAt, find-here, find-nowhere, first-lt, first-room, first-row, first-none}
+use Rattle.unicasts.proofs.Tables.{played-as, refused, done}
 use Rattle.records.specs.Records.{unicastEntry}
 use mathlib.Core.Path.{refl, ap, _∙_}
 use borrow.Author.Needs.{needs}
@@ -14,8 +15,8 @@ use Rattle.unicasts.proofs.calls.report.Lts as lts
 use Rattle.tables.proofs.unicast_rows.find.Reads as find-reads
 use Rattle.tables.proofs.unicast_rows.load.Reads as load-reads
 use Rattle.unicasts.proofs.calls.play.Reads as play-reads
-use Rattle.unicasts.proofs.rules.is_sending.Reads as is-sending-reads
-use Rattle.unicasts.proofs.rules.report_turn.Reads as report-turn-reads
+use Rattle.turning.proofs.rules.is_sending.Reads as is-sending-reads
+use Rattle.turning.proofs.rules.report_turn.Reads as report-turn-reads
 
 find-requires : tie.Need-find-requires
 find-requires c κs = search needs

@@ -1,5 +1,5 @@
-use Rattle.unicasts.specs.Rules.{withStage}
-use Rattle.unicasts.specs.Types.{Unicast, Queued}
+use Rattle.sending.specs.Rules.{withStage}
+use Rattle.sending.specs.Types.{Unicast, Queued}
 use Rattle.unicasts.proofs.Tables.{stands}
 use Rattle.records.specs.Records.{unicastEntry}
 use mathlib.Core.Path.{ap, _∙_}
@@ -10,7 +10,7 @@ use Rattle.unicasts.proofs.calls.requeue.Reads as reads
 use Rattle.unicasts.proofs.calls.requeue.Lts as lts
 use Rattle.tables.proofs.unicast_rows.load.Reads as load-reads
 use Rattle.tables.proofs.unicast_rows.store.Reads as store-reads
-use Rattle.unicasts.proofs.rules.staged.Reads as staged-reads
+use Rattle.turning.proofs.rules.staged.Reads as staged-reads
 
 load-requires : tie.Need-load-requires
 load-requires c κs = search needs

@@ -1,10 +1,11 @@
-use Rattle.unicasts.specs.Rules.{withStage, sweepTurn}
-use Rattle.unicasts.specs.Types.{None16, Failure, Queued, Leave, Requeue, Finish}
+use Rattle.sending.specs.Rules.{withStage, sweepTurn}
+use Rattle.sending.specs.Types.{None16, Failure, Queued}
+use Rattle.sending.specs.declared.Due.the-variants.{Leave, Requeue, Finish}
 use Rattle.actions.proofs.Sweeps.{Sweeping, sweep-start, sweep-quiet, sweep-stays, sweep-goes, sweep-end}
 use Rattle.tables.specs.Layouts.{unicastTable}
-use Rattle.unicasts.proofs.Tables.{rowAt}
+use Rattle.scanning.proofs.Scans.{rowAt}
 use Rattle.records.specs.Records.{unicastEntry}
-use Rattle.unicasts.proofs.Turns.{due-is}
+use Rattle.sending.proofs.Turns.{due-is}
 use Prim.Native.Nat.{_-_}
 use native.Mathlib.Omega.{arith}
 use borrow.Author.Needs.{needs}
@@ -15,7 +16,7 @@ use Rattle.unicasts.proofs.calls.sweep.Lts as lts
 use Rattle.tables.proofs.unicast_rows.head.Reads as head-reads
 use Rattle.unicasts.proofs.calls.finish.Reads as finish-reads
 use Rattle.unicasts.proofs.calls.requeue.Reads as requeue-reads
-use Rattle.unicasts.proofs.rules.due_of.Reads as due-of-reads
+use Rattle.asking.proofs.rules.due_of.Reads as due-of-reads
 
 abbrev Inv-loop : tie.InvT-loop
 Inv-loop w₀ sends told₀ at which n₀ m₀ i₀ w told n m i = Sweeping unicastTable unicastEntry (sweepTurn which) w₀ sends told₀ at w n told m i

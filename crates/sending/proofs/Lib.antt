@@ -1,0 +1,5 @@
+pub mod Turns
+pub mod Bars
+pub mod Claims
+pub mod Members
+pub mod Bells

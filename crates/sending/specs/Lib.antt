@@ -1,0 +1,5 @@
+pub mod Types
+pub mod Rules
+pub mod Lists
+pub mod Members
+pub mod Claims
