@@ -21,9 +21,9 @@ use Rattle.codes.specs.Codes.{flag, quorumWord, quorumFrom, scheduleFrom}
 use Rattle.codes.proofs.Backs.{quorum-back}
 use Rattle.tables.specs.Layouts.{unicastTable, destinationTable, broadcastTable, broadcastLayout, broadcastHead}
 use Rattle.records.specs.declared.Schedule.the-variants.{Once, PassiveAck, FixedInterval}
-use Rattle.broadcasts.specs.declared.Awaited.{Awaited}
-use Rattle.broadcasts.specs.declared.Awaited.the-variants.{NotAwaited, Awaits}
-use Rattle.broadcasts.specs.Rules.{awaitedBy, awaitedHead, listed, awaitedOf}
+use Rattle.casting.specs.declared.Awaited.{Awaited}
+use Rattle.casting.specs.declared.Awaited.the-variants.{NotAwaited, Awaits}
+use Rattle.casting.specs.Rules.{awaitedBy, awaitedHead, listed, awaitedOf}
 use Rattle.unicasts.specs.Members.{mapFits}
 use Rattle.model.specs.Steps.{membersOf}
 use Rattle.model.proofs.Kepts.{all-map}

@@ -20,9 +20,9 @@ use Rattle.actions.proofs.Lines.{told-none}
 use Rattle.unicasts.specs.declared.Outcome as uni
 use Rattle.unicasts.specs.declared.Outcome.the-variants as unicasts
 use Rattle.unicasts.specs.Calls.{Called}
-use Rattle.broadcasts.specs.declared.Outcome as bro
-use Rattle.broadcasts.specs.declared.Outcome.the-variants as broadcasts
-use Rattle.broadcasts.specs.declared.Counts as left
+use Rattle.casting.specs.declared.Outcome as bro
+use Rattle.casting.specs.declared.Outcome.the-variants as broadcasts
+use Rattle.casting.specs.declared.Counts as left
 use Rattle.broadcasts.specs.Calls.{Answered}
 use Rattle.unrouted.specs.declared.Entering.{Entering}
 use Rattle.unrouted.specs.declared.Entering.the-variants.{NoRoom, Entered}

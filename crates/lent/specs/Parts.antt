@@ -13,7 +13,7 @@ use Rattle.tables.specs.Layouts.{unicastTable, unroutedTable, destinationTable,
 use Rattle.unicasts.specs.Lists.{cancelBar}
 use Rattle.unicasts.specs.Rules as uni
 use Rattle.unrouted.specs.Rules as unr
-use Rattle.broadcasts.specs.Rules as bro
+use Rattle.casting.specs.Rules as bro
 use Rattle.lent.specs.Types.{Opt32, None64, Unicast, Unrouted, Broadcast, Settings, Entry, Refusal, NewUnicast, NewUnrouted, NewBroadcast, Answer, Denied, Issued, Counts, Did, Abandoned}
 use Rattle.model.specs.Model.{Model, Effect}
 use Rattle.model.specs.Calls.{unless, turnUnicast, castBar, cancelBroadcast, abandoned}

@@ -83,8 +83,8 @@ fn cancel_broadcast(
         };
     }
     match broadcasts::moves::cancel(b, c.broadcasts, told, 0, id) {
-        broadcasts::Outcome::Refused(e) => crate::denied(c, e),
-        broadcasts::Outcome::Done(x) => {
+        casting::Outcome::Refused(e) => crate::denied(c, e),
+        casting::Outcome::Done(x) => {
             let y = unicasts::calls::cancel_copies(w, c.unicasts, told, x.told, id);
             Did {
                 counts: Counts {

@@ -74,7 +74,7 @@ fn broadcast_as(id: u32, u: NewBroadcast, s: Settings, clock: u64) -> Broadcast
 {
     let p = u.priority;
     let x = u.schedule;
-    broadcasts::turns::admitted(id, u.frame, u.waiter, p, x, clock, s.handoff_timeout)
+    repeating::turns::admitted(id, u.frame, u.waiter, p, x, clock, s.handoff_timeout)
 }
 
 // The send enters under its id, where a place is free.
@@ -251,7 +251,7 @@ pub fn enqueue_broadcast(
     if attempt_late(x) {
         return crate::denied(c, Refusal::TimeTooLate);
     }
-    if broadcasts::turns::no_copies(x) {
+    if repeating::turns::no_copies(x) {
         return crate::denied(c, Refusal::NoCopies);
     }
     if c.next_id == 4294967295 {

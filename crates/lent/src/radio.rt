@@ -101,12 +101,12 @@ pub fn dequeue(
     let y = broadcasts::asks::best_queued(b, c.broadcasts, clock);
     match x {
         Best::NoneReady => match y {
-            broadcasts::Best::NoBest => crate::quiet(c, Answer::NothingQueued),
-            broadcasts::Best::BestIs(j, _) => lend_broadcast(c, w, v, d, b, told, j),
+            casting::Best::NoBest => crate::quiet(c, Answer::NothingQueued),
+            casting::Best::BestIs(j, _) => lend_broadcast(c, w, v, d, b, told, j),
         },
         Best::Ready(i, p) => match y {
-            broadcasts::Best::NoBest => lend_unicast(c, w, v, d, b, told, i),
-            broadcasts::Best::BestIs(j, q) => {
+            casting::Best::NoBest => lend_unicast(c, w, v, d, b, told, i),
+            casting::Best::BestIs(j, q) => {
                 if unicast_first(i, records::priorities::rank(p), j, q) {
                     return lend_unicast(c, w, v, d, b, told, i);
                 }
@@ -163,8 +163,8 @@ fn report_broadcast(
     ensures { λ r. ⌜ Does (reportIn (lentModel c (now (w .entry)) (now (v .entry)) (now (d .entry)) (now (b .entry))) FromBroadcasts id frame x clock delay) (now (told .entry)) (now (w .exit)) (now (v .exit)) (now (d .exit)) (now (b .exit)) (now (told .exit)) r ⌝ }
 {
     match broadcasts::moves::report(b, c.broadcasts, told, 0, id, frame, x, clock, delay) {
-        broadcasts::Outcome::Refused(e) => crate::denied(c, e),
-        broadcasts::Outcome::Done(n) => Did {
+        casting::Outcome::Refused(e) => crate::denied(c, e),
+        casting::Outcome::Done(n) => Did {
             counts: crate::with_broadcasts(c, n.sends),
             answer: Answer::Accepted,
             told: n.told,

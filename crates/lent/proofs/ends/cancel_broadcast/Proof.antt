@@ -11,8 +11,8 @@ use Rattle.rows.proofs.Promises.{here-some, nowhere-none, hit-lookup, miss-look
 use Rattle.tables.specs.Layouts.{unicastTable, broadcastTable}
 use Rattle.actions.proofs.Lines.{told-append}
 use Rattle.unicasts.specs.Rules.{sentCopy}
-use Rattle.broadcasts.specs.Rules.{cancelTurn}
-use Rattle.broadcasts.specs.declared.Outcome.the-variants.{Refused, Done}
+use Rattle.casting.specs.Rules.{cancelTurn}
+use Rattle.casting.specs.declared.Outcome.the-variants.{Refused, Done}
 use Rattle.model.specs.Calls.{castBar, cancelBroadcast}
 use Rattle.model.specs.Model.{lentModel}
 use Rattle.model.proofs.Fews.{first-two}

@@ -6,7 +6,7 @@ use borrow.Author.Tests.{eq-eqb, ne-eqb}
 use Rattle.records.specs.Limits.{noId, broadcastRoom}
 use Rattle.rows.specs.Tables.{live}
 use Rattle.tables.specs.Layouts.{broadcastTable}
-use Rattle.broadcasts.specs.Rules.{noCopies}
+use Rattle.casting.specs.Rules.{noCopies}
 use Rattle.model.specs.Calls.{late, attemptLate}
 use Rattle.lent.specs.Types.{TimeTooLate, NoCopies, IdsExhausted, NoPlace}
 use Rattle.lent.proofs.Doings.{does-deny}
@@ -16,7 +16,7 @@ use Rattle.lent.proofs.enqueues.enqueue_broadcast.Statement.{statement}
 use Rattle.lent.proofs.enqueues.enqueue_broadcast.Tie as tie
 use Rattle.lent.proofs.enqueues.enqueue_broadcast.Reads as reads
 use Rattle.lent.proofs.enqueues.enqueue_broadcast.Lts as lts
-use Rattle.broadcasts.proofs.turns.no_copies.Reads as no-copies-reads
+use Rattle.repeating.proofs.turns.no_copies.Reads as no-copies-reads
 use Rattle.lent.proofs.denied.Reads as denied-reads
 use Rattle.lent.proofs.enqueues.attempt_late.Reads as attempt-late-reads
 use Rattle.lent.proofs.enqueues.broadcast_as.Reads as broadcast-as-reads

@@ -3,7 +3,7 @@ use mathlib.Core.Bool.{true, false}
 use Rattle.rows.specs.Tables.{live}
 use Rattle.tables.specs.Layouts.{unicastTable, broadcastTable}
 use Rattle.unicasts.specs.Lists as uni
-use Rattle.broadcasts.specs.Rules as bro
+use Rattle.casting.specs.Rules as bro
 use Rattle.model.specs.Calls.{late}
 use Rattle.lent.specs.Types.{TimeTooLate, NothingQueued, NoneReady, NoBest}
 use Rattle.lent.proofs.Doings.{did-as, does-deny, does-quiet}
