@@ -30,7 +30,7 @@ use Rattle.model.proofs.Kepts.{all-map}
 use Rattle.unicasts.specs.declared.Book.{Book}
 use Rattle.lent.specs.declared.lists.Matched.{Matched}
 use Rattle.lent.specs.declared.lists.Matched.the-variants.{MapBarred, Members}
-use Rattle.lent.specs.Parts.{entryWords, Listed}
+use Rattle.doing.specs.Parts.{entryWords, Listed}
 use Rattle.lent.specs.Fills.{Filled, Matching}
 use Rattle.lent.proofs.Fillings.{members-few}
 use Rattle.answers.specs.Bytes.{leBytes, Written}

@@ -19,9 +19,9 @@ use Rattle.broadcasts.specs.Calls.{Answered}
 use Rattle.casting.specs.Rules.{inRadio, cancelBar}
 use Rattle.model.specs.Model.{Effect, lentModel, SoundTables, Does}
 use Rattle.model.specs.Calls.{unless, castBar}
-use Rattle.lent.specs.Types.{Unicast, Broadcast, Refusal, Counts, Did}
-use Rattle.lent.specs.Parts.{deniedBy}
-use Rattle.lent.proofs.Doings.{does-deny}
+use Rattle.doing.specs.Types.{Unicast, Broadcast, Refusal, Counts, Did}
+use Rattle.doing.specs.Parts.{deniedBy}
+use Rattle.doing.proofs.Doings.{does-deny}
 
 module _ {c : Counts} {ws vs ds bs : List ℕ} (s : SoundTables c ws vs ds bs) where
   -- something bars it: every lent word stays

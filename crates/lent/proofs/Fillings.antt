@@ -27,7 +27,8 @@ use Rattle.unicasts.specs.Members.{mapFits, memberOf, isPast, leastWith, nextMe
 use Rattle.model.specs.Calls.{only}
 use Rattle.model.specs.Steps.{adding, membersOf}
 use Rattle.model.proofs.Kepts.{insert-length}
-use Rattle.lent.specs.Types.{Opt64, None64, Some64, QuorumKey, Unicast, Book, Members, MapBarred}
+use Rattle.doing.specs.Types.{Opt64, None64, Some64, QuorumKey, Unicast, Book}
+use Rattle.lent.specs.declared.lists.Matched.the-variants.{MapBarred, Members}
 use Rattle.lent.specs.Fills.{Filled, Matching}
 use Rattle.lent.proofs.Listings.{held-cons, held-done}
 

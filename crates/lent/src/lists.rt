@@ -12,7 +12,7 @@ ghost use Rattle.rows.specs.Tables.{live, Held};
 ghost use Rattle.tables.specs.Layouts.{unicastTable, unroutedTable, destinationTable, broadcastTable};
 ghost use Rattle.casting.specs.Rules.{listed, awaitedOf};
 ghost use Rattle.model.specs.Steps.{membersOf};
-ghost use Rattle.lent.specs.Parts.{Listed};
+ghost use Rattle.doing.specs.Parts.{Listed};
 ghost use Rattle.lent.specs.Fills.{Filled, Matching};
 
 // The slices are no address map, or how many members the set has.
