@@ -18,9 +18,11 @@ use Rattle.tables.specs.Layouts.{broadcastTable}
 use Rattle.actions.specs.Calls.{Played}
 use Rattle.actions.proofs.Sweeps.{turn-found, turn-missed}
 use Rattle.actions.proofs.Lines.{told-none}
-use Rattle.broadcasts.specs.Types.{None32, Some32, Broadcast, Refusal, NoSuchSend, InTheRadio, NotInTheRadio, OtherFrame, Counts, Refused, Done}
+use Rattle.casting.specs.Types.{None32, Some32, Broadcast, Refusal, NoSuchSend, InTheRadio, NotInTheRadio, OtherFrame}
+use Rattle.casting.specs.declared.Counts.{Counts}
+use Rattle.casting.specs.declared.Outcome.the-variants.{Refused, Done}
 use Rattle.broadcasts.specs.Calls.{Answered, Dequeued}
-use Rattle.broadcasts.specs.Rules.{inRadio, reportBar, cancelBar, lent, lentOf, dequeueTurn}
+use Rattle.casting.specs.Rules.{inRadio, reportBar, cancelBar, lent, lentOf, dequeueTurn}
 use Rattle.broadcasts.proofs.Plays.{as-played}
 
 pub not-true : (b : Bool) → not b ≡ true → b ≡ false

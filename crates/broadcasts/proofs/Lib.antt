@@ -1,10 +1,3 @@
-pub mod Ticks
-pub mod Entries
 pub mod Plays
 pub mod Found
-pub mod Scans
-pub mod Bests
-pub mod Wakes
-pub mod Sanes
 pub mod Ones
-pub mod Bells

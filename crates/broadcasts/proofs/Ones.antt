@@ -6,8 +6,11 @@ use mathlib.Core.List.{List}
 use mathlib.Core.Option.{Option}
 use Rattle.rows.specs.Moves.{Turn}
 use Rattle.actions.proofs.Ones.{OneOutcome, turned-one}
-use Rattle.broadcasts.specs.Types.{Broadcast, Opt32, Refusal, Counts, Outcome, Refused, Done}
-use Rattle.broadcasts.specs.Rules.{refusalOf}
+use Rattle.casting.specs.Types.{Broadcast, Opt32, Refusal}
+use Rattle.casting.specs.declared.Counts.{Counts}
+use Rattle.casting.specs.declared.Outcome.{Outcome}
+use Rattle.casting.specs.declared.Outcome.the-variants.{Refused, Done}
+use Rattle.casting.specs.Rules.{refusalOf}
 use Rattle.broadcasts.specs.Calls.{After, Answered, Dequeued}
 
 module _ {id : ℕ} {ws ws₁ ws₂ : List ℕ} {n : ℕ} where

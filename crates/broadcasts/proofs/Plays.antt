@@ -18,7 +18,7 @@ use Rattle.actions.specs.Told.{Told}
 use Rattle.actions.specs.Calls.{Played}
 use Rattle.actions.proofs.Lines.{told-append}
 use Rattle.actions.proofs.Sweeps.{Sweeping, sweep-goes}
-use Rattle.broadcasts.specs.Types.{Broadcast}
+use Rattle.casting.specs.Types.{Broadcast}
 use Rattle.broadcasts.specs.Calls.{Plays}
 
 -- ---- generic: a turn at a place, in a sweep

@@ -11,8 +11,10 @@ use Rattle.rows.specs.Moves.{Turn, atFirst, hasId}
 use Rattle.rows.specs.Moves.{Same}
 use Rattle.tables.specs.Layouts.{broadcastTable}
 use Rattle.actions.specs.Calls.{Turned}
-use Rattle.broadcasts.specs.Types.{Broadcast, Opt32, Refusal, Outcome, Refused, Done}
-use Rattle.broadcasts.specs.Rules.{refusalOf, lentOf, dequeueTurn}
+use Rattle.casting.specs.Types.{Broadcast, Opt32, Refusal}
+use Rattle.casting.specs.declared.Outcome.{Outcome}
+use Rattle.casting.specs.declared.Outcome.the-variants.{Refused, Done}
+use Rattle.casting.specs.Rules.{refusalOf, lentOf, dequeueTurn}
 
 -- what a turn at place i asks: the record there is u, the one that stays has its entry, and two actions can be told
 pub record Plays (ws : List ℕ) (n m i : ℕ) (u : Broadcast) (x : Turn Broadcast) : Type 0 where

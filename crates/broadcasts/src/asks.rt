@@ -1,6 +1,6 @@
 // The questions about the lent table: w holds n broadcasts.
-use crate::Awaited;
-use crate::Best;
+use casting::Awaited;
+use casting::Best;
 use records::Opt64;
 use rows::Place;
 ghost use mathlib.Core.Path.{_≡_};
@@ -9,7 +9,7 @@ ghost use lib.ListN.{getD};
 ghost use Rattle.records.specs.Records.{blankBroadcast};
 ghost use Rattle.rows.specs.Tables.{rowsOf, live, Held};
 ghost use Rattle.tables.specs.Layouts.{broadcastTable, broadcastHead};
-ghost use Rattle.broadcasts.specs.Rules.{bestOf, wakeOf, isTransmitting, awaitedHead};
+ghost use Rattle.casting.specs.Rules.{bestOf, wakeOf, isTransmitting, awaitedHead};
 
 // The best queued one: of the highest priority, and then of the lowest id. One past its deadline is left for the tick.
 pub fn best_queued(w: &[u64; 112], n: usize, clock: u64) -> Best
@@ -20,7 +20,7 @@ pub fn best_queued(w: &[u64; 112], n: usize, clock: u64) -> Best
     let mut i = n;
     while 0 < i {
         let h = tables::broadcast_rows::head(w, i - 1);
-        best = crate::heads::best(h, clock, best);
+        best = casting::heads::best(h, clock, best);
         i = i - 1;
     }
     best
@@ -35,7 +35,7 @@ pub fn next_wake(w: &[u64; 112], n: usize) -> Opt64
     let mut i = n;
     while 0 < i {
         let h = tables::broadcast_rows::head(w, i - 1);
-        wake = crate::heads::wake(h, wake);
+        wake = casting::heads::wake(h, wake);
         i = i - 1;
     }
     wake
@@ -51,7 +51,7 @@ pub fn is_transmitting(w: &[u64; 112], n: usize, id: u32) -> bool
         Place::Here(i) => {
             let h = tables::broadcast_rows::head(w, i);
             let c = h.copy;
-            crate::turns::in_radio(c)
+            repeating::turns::in_radio(c)
         }
     }
 }
@@ -61,5 +61,5 @@ pub fn awaited_at(w: &[u64; 112], i: usize) -> Awaited
     requires { ⌜ i < 16 ⌝ }
     ensures { λ r. ⌜ r ≡ awaitedHead (broadcastHead (getD (rowsOf broadcastTable (now (w .entry))) i blankBroadcast)) ⌝ }
 {
-    crate::heads::awaited(tables::broadcast_rows::head(w, i))
+    casting::heads::awaited(tables::broadcast_rows::head(w, i))
 }

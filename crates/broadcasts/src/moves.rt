@@ -1,7 +1,7 @@
 // The calls that change the lent table: w holds n broadcasts, and what is told goes into `told` from place m on.
-use crate::Counts;
-use crate::Outcome;
-use crate::TurnB;
+use casting::Counts;
+use casting::Outcome;
+use casting::TurnB;
 use records::Broadcast;
 use records::Opt16;
 use records::Opt32;
@@ -23,7 +23,7 @@ ghost use Rattle.rows.specs.Tables.{rowsOf, live, Held, Holds, Entered};
 ghost use Rattle.rows.specs.Moves.{firstAt};
 ghost use Rattle.tables.specs.Layouts.{broadcastTable};
 ghost use Rattle.actions.specs.Calls.{Swept, Turned, Played};
-ghost use Rattle.broadcasts.specs.Rules.{turnB, admittedOf, keyed, reportTurn, reportBar, deliveredTurn, cancelTurn, cancelBar, tickTurn};
+ghost use Rattle.casting.specs.Rules.{turnB, admittedOf, keyed, reportTurn, reportBar, deliveredTurn, cancelTurn, cancelBar, tickTurn};
 ghost use Rattle.broadcasts.specs.Calls.{Plays, Answered, Dequeued};
 
 // The broadcast at place i, which is u, has this turn.
@@ -81,7 +81,7 @@ pub fn enqueue(
     requires { ⌜ clock ≤ lastTime ⌝ }
     ensures { λ r. ⌜ Entered broadcastTable (now (w .entry)) n (admittedOf id frame waiter priority schedule clock handoff) (now (w .exit)) r ⌝ }
 {
-    let b = crate::turns::admitted(id, frame, waiter, priority, schedule, clock, handoff);
+    let b = repeating::turns::admitted(id, frame, waiter, priority, schedule, clock, handoff);
     tables::broadcast_rows::insert(w, n, b)
 }
 
@@ -94,7 +94,7 @@ pub fn dequeue(w: &mut [u64; 112], n: usize, id: u32) -> Opt32
         Place::Nowhere => Opt32::None32,
         Place::Here(i) => {
             let u = tables::broadcast_rows::load(w, i);
-            tables::broadcast_rows::store(w, n, i, crate::turns::dequeued(u));
+            tables::broadcast_rows::store(w, n, i, repeating::turns::dequeued(u));
             Opt32::Some32(u.frame)
         }
     }
@@ -122,13 +122,13 @@ pub fn report(
         Place::Here(i) => {
             let u = tables::broadcast_rows::load(w, i);
             let c = u.copy;
-            if !crate::turns::in_radio(c) {
+            if !repeating::turns::in_radio(c) {
                 return Outcome::Refused(Refusal::NotInTheRadio);
             }
             if u.frame != frame {
                 return Outcome::Refused(Refusal::OtherFrame);
             }
-            let t = crate::turns::report(u, x, clock, delay);
+            let t = repeating::turns::report(u, x, clock, delay);
             Outcome::Done(play(w, n, told, m, i, u, t))
         }
     }
@@ -145,10 +145,10 @@ pub fn cancel(w: &mut [u64; 112], n: usize, told: &mut [u64; 560], m: usize, id:
         Place::Here(i) => {
             let u = tables::broadcast_rows::load(w, i);
             let c = u.copy;
-            if crate::turns::in_radio(c) {
+            if repeating::turns::in_radio(c) {
                 return Outcome::Refused(Refusal::InTheRadio);
             }
-            let t = crate::turns::cancel(u);
+            let t = repeating::turns::cancel(u);
             Outcome::Done(play(w, n, told, m, i, u, t))
         }
     }
@@ -161,7 +161,7 @@ pub fn first_keyed(w: &[u64; 112], n: usize, key: QuorumKey) -> Place
 {
     let mut i: usize = 0;
     while i < n {
-        if crate::heads::is_keyed(tables::broadcast_rows::schedule(w, i), key) {
+        if casting::heads::is_keyed(tables::broadcast_rows::schedule(w, i), key) {
             return Place::Here(i);
         }
         i = i + 1;
@@ -185,7 +185,7 @@ pub fn delivered(
         Place::Nowhere => Counts { sends: n, told: m },
         Place::Here(i) => {
             let u = tables::broadcast_rows::load(w, i);
-            let t = crate::turns::delivered(u);
+            let t = repeating::turns::delivered(u);
             play(w, n, told, m, i, u, t)
         }
     }
@@ -205,7 +205,7 @@ fn tick_at(
     ensures { λ r. ⌜ Played broadcastTable broadcastEntry (tickTurn clock (getD (rowsOf broadcastTable (now (w .entry))) i blankBroadcast)) i (getD (rowsOf broadcastTable (now (w .entry))) i blankBroadcast) (now (w .entry)) n (now (told .entry)) m (now (w .exit)) (r .sends) (now (told .exit)) (r .told) ⌝ }
 {
     let u = tables::broadcast_rows::load(w, i);
-    let t = crate::turns::tick(u, clock);
+    let t = repeating::turns::tick(u, clock);
     play(w, n, told, m, i, u, t)
 }
 
@@ -225,7 +225,7 @@ pub fn tick(
     let mut m = at;
     let mut i: usize = 0;
     while i < n {
-        if crate::heads::stirs(tables::broadcast_rows::head(w, i), clock) {
+        if casting::heads::stirs(tables::broadcast_rows::head(w, i), clock) {
             let c = tick_at(w, n, told, m, i, clock);
             // the place of a settled one is the next one's
             i = i + 1 + c.sends - n;

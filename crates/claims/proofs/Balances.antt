@@ -19,9 +19,9 @@ use Rattle.rows.specs.Lists.{insertBy, lookup}
 use Rattle.rows.specs.Moves.{Turn, atFirst, firstOf, anyOf, count, eachTold, atFirstTold, hasId, Same, settledOf}
 use Rattle.rows.specs.Moves.Turn.{Keeps}
 use Rattle.rows.proofs.Promises.{entries, count-append, count-map, settled-append, first-count, insert-count}
-use Rattle.broadcasts.specs.declared.Best as cast
-use Rattle.broadcasts.specs.Rules as bro
-use Rattle.broadcasts.proofs.Entries as bros
+use Rattle.casting.specs.declared.Best as cast
+use Rattle.casting.specs.Rules as bro
+use Rattle.casting.proofs.Entries as bros
 use Rattle.sending.specs.Rules as uni
 use Rattle.sending.specs.Lists as unis
 use Rattle.sending.specs.Members.{mapFits}

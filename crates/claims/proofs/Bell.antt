@@ -14,7 +14,7 @@ use Rattle.rows.specs.Lists.{All, lookup}
 use Rattle.rows.specs.Moves.{Turn, kept, told, atFirst, atFirstTold, firstOf, anyOf, hasId}
 use Rattle.sending.specs.Rules as uni
 use Rattle.sending.specs.Lists as unis
-use Rattle.broadcasts.specs.Rules as bro
+use Rattle.casting.specs.Rules as bro
 use Rattle.model.specs.Model.{Model, freshOf, withUnicasts, withBroadcasts, denied, done, answers}
 use Rattle.model.specs.Calls.{late, unless, turnUnicast, turnBroadcast}
 use Rattle.model.specs.Steps.{Call, Outcome, acts, stepOf, after}

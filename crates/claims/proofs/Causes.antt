@@ -17,8 +17,8 @@ use Rattle.records.proofs.Cases.{either, never}
 use Rattle.rows.specs.Lists.{All, insertBy, lookup}
 use Rattle.rows.specs.Moves.{Turn, told, atFirstTold, firstOf, anyOf, count, hasId, eachTold}
 use Rattle.rows.proofs.Promises.{first-has, told-found, told-missed}
-use Rattle.broadcasts.specs.declared.Best as cast
-use Rattle.broadcasts.specs.Rules as bro
+use Rattle.casting.specs.declared.Best as cast
+use Rattle.casting.specs.Rules as bro
 use Rattle.sending.specs.Rules as uni
 use Rattle.sending.specs.Lists as unis
 use Rattle.unrouted.specs.Rules as unr

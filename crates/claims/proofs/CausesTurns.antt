@@ -9,7 +9,7 @@ use Rattle.records.proofs.Same.{equal-ack-key, equal-quorum-key}
 use Rattle.rows.specs.Moves.{Turn}
 use Rattle.sending.specs.Rules as uni
 use Rattle.unrouted.specs.Rules as unr
-use Rattle.broadcasts.specs.Rules as bro
+use Rattle.casting.specs.Rules as bro
 use Rattle.claims.specs.CausesTypes.{Opt16, None16, Some16, Opt64, Address, Absent, Short, Extended, AckKey, QuorumKey, Confirm, OnHandoff, ApsAck, Stage, Queued, Transmitting, Retrying, AwaitingPoll, AwaitingApsAck, Unicast, Unrouted, Broadcast, Schedule, Once, PassiveAck, FixedInterval, CopyState, Idle, CopyQueued, CopyTransmitting, TxResult, Sent, Failed, Lapsed, Bound}
 use Rattle.claims.specs.Causes.{Fact, Want, confirmWant, scheduleWant, Enqueued, Acked, Reported, Heard, Caused}
 use Rattle.claims.specs.Causes.Want.{AnAck, AReport, AReportAndQuorum}

@@ -11,7 +11,7 @@ use Rattle.records.specs.Records.{unicastEntry, broadcastEntry}
 use Rattle.claims.specs.CausesTypes.{Opt16, Opt64, AckKey, QuorumKey, Confirm, OnHandoff, ApsAck, Schedule, Once, PassiveAck, FixedInterval, Sent, Failed, Success, Entry, HandedOff, Settled}
 use Rattle.rows.specs.Lists.{All}
 use Rattle.sending.specs.Rules as uni
-use Rattle.broadcasts.specs.Rules as bro
+use Rattle.casting.specs.Rules as bro
 use Rattle.claims.specs.CausesTypes.{Lender, FromUnicasts, Accepted, Issued}
 use Rattle.model.specs.Model.{Model, freshOf}
 use Rattle.model.specs.Steps.{Call, stepOf, after}

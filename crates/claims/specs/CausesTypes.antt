@@ -36,7 +36,7 @@ pub use Rattle.records.specs.declared.Refusal.{Refusal}
 pub use Rattle.records.specs.declared.Refusal.the-variants.{TimeTooLate, IdsExhausted, NoCopies, NoPlace, InTheRadio, OtherFrame, ResultsMismatch}
 pub use Rattle.sending.specs.declared.Best.{Best}
 pub use Rattle.sending.specs.declared.Best.the-variants.{NoneReady, Ready}
-pub use Rattle.broadcasts.specs.declared.Best.the-variants.{NoBest, BestIs}
+pub use Rattle.casting.specs.declared.Best.the-variants.{NoBest, BestIs}
 pub use Rattle.unrouted.specs.declared.Which.the-variants.{Lapsed, Bound}
 pub use Rattle.unrouted.specs.declared.Retry.{Retry}
 pub use Rattle.unrouted.specs.declared.Retry.the-variants.{NotHeld, Declined, Granted}

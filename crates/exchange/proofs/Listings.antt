@@ -21,16 +21,16 @@ use Rattle.codes.specs.Codes.{flag, quorumWord, quorumFrom, scheduleFrom}
 use Rattle.codes.proofs.Backs.{quorum-back}
 use Rattle.tables.specs.Layouts.{unicastTable, destinationTable, broadcastTable, broadcastLayout, broadcastHead}
 use Rattle.records.specs.declared.Schedule.the-variants.{Once, PassiveAck, FixedInterval}
-use Rattle.broadcasts.specs.declared.Awaited.{Awaited}
-use Rattle.broadcasts.specs.declared.Awaited.the-variants.{NotAwaited, Awaits}
-use Rattle.broadcasts.specs.Rules.{awaitedBy, awaitedHead, listed, awaitedOf}
+use Rattle.casting.specs.declared.Awaited.{Awaited}
+use Rattle.casting.specs.declared.Awaited.the-variants.{NotAwaited, Awaits}
+use Rattle.casting.specs.Rules.{awaitedBy, awaitedHead, listed, awaitedOf}
 use Rattle.sending.specs.Members.{mapFits}
 use Rattle.model.specs.Steps.{membersOf}
 use Rattle.model.proofs.Kepts.{all-map}
 use Rattle.sending.specs.declared.Book.{Book}
 use Rattle.lent.specs.declared.lists.Matched.{Matched}
 use Rattle.lent.specs.declared.lists.Matched.the-variants.{MapBarred, Members}
-use Rattle.lent.specs.Parts.{entryWords, Listed}
+use Rattle.doing.specs.Parts.{entryWords, Listed}
 use Rattle.lent.specs.Fills.{Filled, Matching}
 use Rattle.lent.proofs.Fillings.{members-few}
 use Rattle.answers.specs.Bytes.{leBytes, Written}

@@ -20,7 +20,7 @@ use Rattle.model.specs.Sound.{SoundModel}
 use Rattle.model.specs.Steps.{Call, EnqueueUnicast, EnqueueCopy, EnqueueUnrouted, EnqueueBroadcast, Dequeue, Transmitted, Poll, AckReceived, RetryDiscovery, FailUnrouted, RouteUnicasts, Delivered, DropIndirect, Cancel, Tick, Abandon, HasUnrouted, HasAwaiting, membersOf, acts, stepOf}
 use Rattle.model.proofs.Bounds.{few-actions}
 use Rattle.model.proofs.Sounds.{step-sound}
-use Rattle.lent.specs.Parts.{AbandonedAll}
+use Rattle.doing.specs.Parts.{AbandonedAll}
 use Rattle.steps.specs.Applied.{effectOf}
 use Rattle.replies.specs.Replies.{actsOf, replyItems}
 use Rattle.replies.proofs.Backs.{told-acts}

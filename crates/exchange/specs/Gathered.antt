@@ -7,7 +7,7 @@ use Rattle.codes.specs.Codes.{quorumWord}
 use Rattle.lent.specs.Fills.{Filled}
 use Rattle.listings.specs.Listings.{destinationItems, keyItems, shortItems, longItems}
 use Rattle.model.specs.Steps.{membersOf}
-use Rattle.broadcasts.specs.Rules.{awaitedOf}
+use Rattle.casting.specs.Rules.{awaitedOf}
 use Rattle.exchange.specs.Types.{Unicast, Destination, Broadcast, Item, Done, DestinationAddress, Key, ShortAddress, ExtendedAddress, Sizes, Shorts, Longs}
 
 -- destinations, keys, the short set, the extended set, 129

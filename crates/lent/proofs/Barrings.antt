@@ -14,14 +14,14 @@ use Rattle.rows.specs.Moves.{Turn, anyOf}
 use Rattle.rows.specs.Moves.Turn.{Keeps}
 use Rattle.rows.proofs.Promises.{here-some, nowhere-none, find-first, first-found, first-missed}
 use Rattle.sending.specs.Rules.{sentCopy}
-use Rattle.broadcasts.specs.declared.Outcome as casts
+use Rattle.casting.specs.declared.Outcome as casts
 use Rattle.broadcasts.specs.Calls.{Answered}
-use Rattle.broadcasts.specs.Rules.{inRadio, cancelBar}
+use Rattle.casting.specs.Rules.{inRadio, cancelBar}
 use Rattle.model.specs.Model.{Effect, lentModel, SoundTables, Does}
 use Rattle.model.specs.Calls.{unless, castBar}
-use Rattle.lent.specs.Types.{Unicast, Broadcast, Refusal, Counts, Did}
-use Rattle.lent.specs.Parts.{deniedBy}
-use Rattle.lent.proofs.Doings.{does-deny}
+use Rattle.doing.specs.Types.{Unicast, Broadcast, Refusal, Counts, Did}
+use Rattle.doing.specs.Parts.{deniedBy}
+use Rattle.doing.proofs.Doings.{does-deny}
 
 module _ {c : Counts} {ws vs ds bs : List ℕ} (s : SoundTables c ws vs ds bs) where
   -- something bars it: every lent word stays

@@ -19,15 +19,16 @@ use Rattle.rows.proofs.Promises.{rising-insert}
 use Rattle.rows.proofs.Sets.{sets-append}
 use Rattle.codes.specs.Codes.{quorumWord}
 use Rattle.tables.specs.Layouts.{broadcastTable, broadcastHead}
-use Rattle.broadcasts.specs.declared.Awaited.{Awaited}
-use Rattle.broadcasts.specs.declared.Awaited.the-variants.{NotAwaited, Awaits}
-use Rattle.broadcasts.specs.Rules.{awaitedHead, listed, awaitedOf}
-use Rattle.broadcasts.proofs.Scans.{rowAt, awaited-turn, awaited-end}
+use Rattle.casting.specs.declared.Awaited.{Awaited}
+use Rattle.casting.specs.declared.Awaited.the-variants.{NotAwaited, Awaits}
+use Rattle.casting.specs.Rules.{awaitedHead, listed, awaitedOf}
+use Rattle.casting.proofs.Scans.{rowAt, awaited-turn, awaited-end}
 use Rattle.sending.specs.Members.{mapFits, memberOf, isPast, leastWith, nextMember}
 use Rattle.model.specs.Calls.{only}
 use Rattle.model.specs.Steps.{adding, membersOf}
 use Rattle.model.proofs.Kepts.{insert-length}
-use Rattle.lent.specs.Types.{Opt64, None64, Some64, QuorumKey, Unicast, Book, Members, MapBarred}
+use Rattle.doing.specs.Types.{Opt64, None64, Some64, QuorumKey, Unicast, Book}
+use Rattle.lent.specs.declared.lists.Matched.the-variants.{MapBarred, Members}
 use Rattle.lent.specs.Fills.{Filled, Matching}
 use Rattle.lent.proofs.Listings.{held-cons, held-done}
 

@@ -11,8 +11,8 @@ use Rattle.rows.specs.Tables.{Table, rowsOf, live, Held}
 use Rattle.rows.proofs.Sets.{sets-append}
 use Rattle.rows.proofs.Flat.{flat-append, length-flat}
 use Rattle.rows.proofs.Promises.{live-cons, live-done, held-length, length-rowsOf}
-use Rattle.lent.specs.Types.{Entry}
-use Rattle.lent.specs.Parts.{entryWords, Listed}
+use Rattle.doing.specs.Types.{Entry}
+use Rattle.doing.specs.Parts.{entryWords, Listed}
 
 -- i of the sends are listed
 abbrev pub Listing : {A : Type 0} → Table A → (A → Entry) → List ℕ → ℕ → ℕ → List ℕ → List ℕ → ℕ → Type 0

@@ -7,7 +7,9 @@ use lib.Seq.{sets}
 use Rattle.records.specs.Pick.{pick}
 use Rattle.sending.specs.Members.{mapFits}
 use Rattle.model.specs.Steps.{membersOf}
-use Rattle.lent.specs.Types.{Unicast, Book, Matched, MapBarred, Members}
+use Rattle.doing.specs.Types.{Unicast, Book}
+use Rattle.lent.specs.declared.lists.Matched.{Matched}
+use Rattle.lent.specs.declared.lists.Matched.the-variants.{MapBarred, Members}
 
 -- the numbers are put from place `at` on, every other stays, and r is the next place
 pub record Filled (at : ℕ) (xs out out′ : List ℕ) (r : ℕ) : Type 0 where

@@ -1,4 +1,1 @@
-pub mod Types
-pub mod Parts
-pub mod Routes
 pub mod Fills

@@ -25,11 +25,11 @@ pub fn poll(
     requires { ⌜ SoundTables c (now w) (now v) (now d) (now b) ⌝ }
     ensures { λ r. ⌜ Does (pollOf (lentModel c (now (w .entry)) (now (v .entry)) (now (d .entry)) (now (b .entry))) eui nwk clock) (now (told .entry)) (now (w .exit)) (now (v .exit)) (now (d .exit)) (now (b .exit)) (now (told .exit)) r ⌝ }
 {
-    if crate::too_late(clock) {
-        return crate::denied(c, Refusal::TimeTooLate);
+    if doing::too_late(clock) {
+        return doing::denied(c, Refusal::TimeTooLate);
     }
     let found = unicasts::calls::poll(w, c.unicasts, eui, nwk, clock);
-    crate::quiet(c, Answer::Replied(found))
+    doing::quiet(c, Answer::Replied(found))
 }
 
 // An end-to-end ack came.
@@ -47,7 +47,7 @@ pub fn aps_ack_received(
 {
     let x = unicasts::calls::ack(w, c.unicasts, told, 0, key);
     Did {
-        counts: crate::with_unicasts(c, x.sends),
+        counts: doing::with_unicasts(c, x.sends),
         answer: Answer::Accepted,
         told: x.told,
     }
@@ -69,7 +69,7 @@ pub fn drop_indirect_unicasts(
 {
     let x = unicasts::calls::drop_indirect(w, c.unicasts, told, 0, eui, nwk);
     Did {
-        counts: crate::with_unicasts(c, x.sends),
+        counts: doing::with_unicasts(c, x.sends),
         answer: Answer::Accepted,
         told: x.told,
     }
@@ -90,7 +90,7 @@ pub fn broadcast_delivered(
 {
     let x = broadcasts::moves::delivered(b, c.broadcasts, told, 0, key);
     Did {
-        counts: crate::with_broadcasts(c, x.sends),
+        counts: doing::with_broadcasts(c, x.sends),
         answer: Answer::Accepted,
         told: x.told,
     }

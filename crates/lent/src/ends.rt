@@ -11,7 +11,7 @@ use unrouted::Which;
 ghost use mathlib.Core.Path.{_≡_};
 ghost use Rattle.model.specs.Model.{lentModel, SoundTables, Does};
 ghost use Rattle.model.specs.Calls.{soonest, wakeOf, cancelOf, cancelUnrouted, tickOf};
-ghost use Rattle.lent.specs.Parts.{cancelIn, cancelCast, AbandonedAll};
+ghost use Rattle.doing.specs.Parts.{cancelIn, cancelCast, AbandonedAll};
 
 // A unicast is cancelled, a broadcast's copy too: alone.
 fn cancel_unicast(
@@ -27,9 +27,9 @@ fn cancel_unicast(
     ensures { λ r. ⌜ Does (cancelIn (lentModel c (now (w .entry)) (now (v .entry)) (now (d .entry)) (now (b .entry))) id) (now (told .entry)) (now (w .exit)) (now (v .exit)) (now (d .exit)) (now (b .exit)) (now (told .exit)) r ⌝ }
 {
     match unicasts::calls::cancel(w, c.unicasts, told, 0, id) {
-        Outcome::Refused(e) => crate::denied(c, e),
+        Outcome::Refused(e) => doing::denied(c, e),
         Outcome::Done(n, m) => Did {
-            counts: crate::with_unicasts(c, n),
+            counts: doing::with_unicasts(c, n),
             answer: Answer::Accepted,
             told: m,
         },
@@ -78,13 +78,13 @@ fn cancel_broadcast(
 {
     if scanning::asks::copy_in_radio(w, c.unicasts, id) {
         return match tables::broadcast_rows::find(b, c.broadcasts, id) {
-            Place::Nowhere => crate::denied(c, Refusal::NoSuchSend),
-            Place::Here(_) => crate::denied(c, Refusal::InTheRadio),
+            Place::Nowhere => doing::denied(c, Refusal::NoSuchSend),
+            Place::Here(_) => doing::denied(c, Refusal::InTheRadio),
         };
     }
     match broadcasts::moves::cancel(b, c.broadcasts, told, 0, id) {
-        broadcasts::Outcome::Refused(e) => crate::denied(c, e),
-        broadcasts::Outcome::Done(x) => {
+        casting::Outcome::Refused(e) => doing::denied(c, e),
+        casting::Outcome::Done(x) => {
             let y = unicasts::calls::cancel_copies(w, c.unicasts, told, x.told, id);
             Did {
                 counts: Counts {
@@ -136,8 +136,8 @@ pub fn tick(
     requires { ⌜ SoundTables c (now w) (now v) (now d) (now b) ⌝ }
     ensures { λ r. ⌜ Does (tickOf (lentModel c (now (w .entry)) (now (v .entry)) (now (d .entry)) (now (b .entry))) clock) (now (told .entry)) (now (w .exit)) (now (v .exit)) (now (d .exit)) (now (b .exit)) (now (told .exit)) r ⌝ }
 {
-    if crate::too_late(clock) {
-        return crate::denied(c, Refusal::TimeTooLate);
+    if doing::too_late(clock) {
+        return doing::denied(c, Refusal::TimeTooLate);
     }
     let x = unicasts::calls::tick(w, c.unicasts, told, 0, clock);
     let y = unrouted::sweep(v, c.unrouted, told, x.told, Which::Lapsed(clock));

@@ -1,6 +1,6 @@
 // The lists that a call gives: live sends as they are abandoned; and into a lent array, whose numbers past those given stay as
 // they came, the held destinations, the awaited keys, and the members of a source-match set.
-use broadcasts::Awaited;
+use casting::Awaited;
 use records::Entry;
 use records::Opt64;
 use sending::Book;
@@ -10,9 +10,9 @@ ghost use Rattle.records.specs.Records.{unicastEntry, unroutedEntry, broadcastE
 ghost use Rattle.codes.specs.Codes.{quorumWord};
 ghost use Rattle.rows.specs.Tables.{live, Held};
 ghost use Rattle.tables.specs.Layouts.{unicastTable, unroutedTable, destinationTable, broadcastTable};
-ghost use Rattle.broadcasts.specs.Rules.{listed, awaitedOf};
+ghost use Rattle.casting.specs.Rules.{listed, awaitedOf};
 ghost use Rattle.model.specs.Steps.{membersOf};
-ghost use Rattle.lent.specs.Parts.{Listed};
+ghost use Rattle.doing.specs.Parts.{Listed};
 ghost use Rattle.lent.specs.Fills.{Filled, Matching};
 
 // The slices are no address map, or how many members the set has.

@@ -25,10 +25,10 @@ use Rattle.rows.specs.Moves.{Turn, count, firstOf, anyOf, eachTold, atFirstTold
 use Rattle.rows.proofs.Promises.{each-length, rising-lower}
 use Rattle.sending.specs.Rules as uni
 use Rattle.unrouted.specs.Rules as unr
-use Rattle.broadcasts.specs.Rules as bro
+use Rattle.casting.specs.Rules as bro
 use Rattle.sending.specs.Lists as unis
-use Rattle.broadcasts.specs.Claims.{Sane}
-use Rattle.broadcasts.specs.declared.Best as cast
+use Rattle.casting.specs.Claims.{Sane}
+use Rattle.casting.specs.declared.Best as cast
 use Rattle.model.specs.Types.{None16, Opt32, None32, Some32, NewUnicast, NewUnrouted, NewBroadcast, Opt64, Settings, Unicast, Unrouted, Broadcast, FixedInterval, Best, NoneReady, Ready, NoBest, BestIs, Lapsed, Bound, Retry, NotHeld, Declined, Granted, Resolved, Reached, Unreached, Lender, FromUnicasts, FromBroadcasts, TxResult, Action, Refusal}
 use Rattle.model.specs.Model.{Model, Effect}
 use Rattle.model.specs.Calls.{late, attemptLate, reached, matched, unless, enqueueOf, enqueueUnroutedOf, enqueueBroadcastOf, admitting, only, failing, lapsed, ticked, lendBest, unicastFirst, reportIn, failOf, dropOf, cancelOf, routeOf, retryBy, castBar, cancelUnrouted, turnUnicast, turnBroadcast}

@@ -20,10 +20,10 @@ use Rattle.sending.specs.Rules as uni
 use Rattle.sending.specs.Lists as unis
 use Rattle.sending.specs.Claims as unic
 use Rattle.sending.proofs.Claims as unip
-use Rattle.broadcasts.specs.Rules as bro
-use Rattle.broadcasts.specs.Claims as broc
-use Rattle.broadcasts.proofs.Bests as brop
-use Rattle.broadcasts.specs.declared.Best as cast
+use Rattle.casting.specs.Rules as bro
+use Rattle.casting.specs.Claims as broc
+use Rattle.casting.proofs.Bests as brop
+use Rattle.casting.specs.declared.Best as cast
 use Rattle.model.specs.Types.{Unicast, Broadcast, Best, NoneReady, Ready, NoBest, BestIs, Answer, Transmit, NothingQueued, InFlight}
 use Rattle.model.specs.Model.{Model, Effect, withUnicasts, withBroadcasts, answers}
 use Rattle.model.specs.Calls.{flightOf, castOf, lendUnicast, lendBroadcast, unicastFirst, lendBest, dequeueOf}

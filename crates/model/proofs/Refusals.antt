@@ -20,8 +20,8 @@ use Rattle.sending.specs.Members.{mapFits}
 use Rattle.sending.specs.Rules as uni
 use Rattle.sending.specs.Lists as unis
 use Rattle.unrouted.specs.Rules as unr
-use Rattle.broadcasts.specs.Rules as bro
-use Rattle.broadcasts.specs.declared.Best as cast
+use Rattle.casting.specs.Rules as bro
+use Rattle.casting.specs.declared.Best as cast
 use Rattle.model.specs.Types.{Opt32, None32, Some32, Unicast, Unrouted, Destination, Broadcast, TxResult, Best, NoneReady, Ready, Loan, NoLoan, Lent, NoBest, BestIs, Lender, FromUnicasts, FromBroadcasts, Declined, Granted, Refusal, TimeTooLate, IdsExhausted, NoCopies, NoPlace, NoSuchSend, InTheRadio, DestinationNotHeld, ResultsMismatch, MapMalformed, Answer, Denied, Accepted, Issued, Replied, NothingQueued, InFlight}
 use Rattle.model.specs.Model.{Model, Effect, denied}
 use Rattle.model.specs.Calls.{matched, unless, admitting, late, flightOf, castOf, lendUnicast, lendBroadcast, unicastFirst, lendBest, transmittedOf, attemptLate, reached, retryBy, retryOf, castBar, cancelUnrouted, cancelBroadcast, turnUnicast, cancelOf}

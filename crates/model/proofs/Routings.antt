@@ -23,7 +23,7 @@ use Rattle.sending.specs.Lists as unis
 use Rattle.sending.proofs.Turns.{copy-same}
 use Rattle.unrouted.specs.Rules as unr
 use Rattle.unrouted.proofs.Exact.{sweep-same}
-use Rattle.broadcasts.specs.Rules as bro
+use Rattle.casting.specs.Rules as bro
 use Rattle.model.specs.Types.{Unicast, Unrouted, Broadcast, Settings, Action, Lapsed, Resolved, Reached, Unreached, Refusal, TimeTooLate, ResultsMismatch, NoPlace, InTheRadio, Denied, Accepted}
 use Rattle.model.specs.Model.{Model, Effect, denied}
 use Rattle.model.specs.Calls.{late, matched, unless, only, reached, routed, entering, failing, lapsed, routing, turnUnicast, cancelUnrouted, castBar, cancelBroadcast, cancelOf}

@@ -17,11 +17,11 @@ use Rattle.records.proofs.Cases.{either, either-by, eq-or-ne}
 use Rattle.rows.specs.Lists.{All, insertBy, removeBy, lookup}
 use Rattle.rows.specs.Moves.{Turn, kept, atFirst, firstOf, anyOf, count, hasId, Same}
 use Rattle.rows.specs.Moves.Turn.{Keeps, HandsOff, Settles}
-use Rattle.broadcasts.specs.Claims.{Sane, Leaves}
-use Rattle.broadcasts.specs.declared.Best as cast
-use Rattle.broadcasts.specs.Rules as bro
-use Rattle.broadcasts.proofs.Entries.{same-dequeue, same-cancel, same-report, same-delivered, same-tick}
-use Rattle.broadcasts.proofs.Sanes.{sane-admitted, sane-dequeue, sane-report, sane-delivered, sane-tick}
+use Rattle.casting.specs.Claims.{Sane, Leaves}
+use Rattle.casting.specs.declared.Best as cast
+use Rattle.casting.specs.Rules as bro
+use Rattle.casting.proofs.Entries.{same-dequeue, same-cancel, same-report, same-delivered, same-tick}
+use Rattle.casting.proofs.Sanes.{sane-admitted, sane-dequeue, sane-report, sane-delivered, sane-tick}
 use Rattle.sending.specs.Rules as uni
 use Rattle.sending.specs.Lists as unis
 use Rattle.sending.proofs.Turns.{lend-same, poll-same, cancel-same, ack-same, report-same, tick-same, drop-same, copy-same}

@@ -18,7 +18,7 @@ use Rattle.tables.specs.Layouts.{broadcastHead}
 use Rattle.sending.specs.Rules as uni
 use Rattle.sending.specs.Lists as unis
 use Rattle.unrouted.specs.Rules as unr
-use Rattle.broadcasts.specs.Rules as bro
+use Rattle.casting.specs.Rules as bro
 use Rattle.model.specs.Types.{Opt64, None64, Some64, Schedule, Once, PassiveAck, FixedInterval, Broadcast}
 use Rattle.model.specs.Calls.{soonest}
 use Rattle.model.specs.Claims.{unicastTimes, idleTime, broadcastTimes, unicastWakes, unroutedWakes, broadcastWakes, IsLeast, WakeIsLeast}

@@ -14,11 +14,11 @@ use Rattle.rows.specs.Lists.{insertBy, removeBy, lookup}
 use Rattle.rows.specs.Moves.{Turn, each, atFirst, firstOf, anyOf, count, eachTold, atFirstTold, hasId}
 use Rattle.model.specs.Types.{Opt16, None16, Opt32, None32, Some32, Opt64, None64, Some64, Address, AckKey, QuorumKey, Schedule, Once, PassiveAck, FixedInterval, Unicast, Unrouted, Broadcast, Settings, TxResult, Entry, Code, Action, Settled, Refusal, TimeTooLate, IdsExhausted, NoCopies, NoPlace, NoSuchSend, InTheRadio, DestinationNotHeld, ResultsMismatch, Best, NoneReady, Ready, Loan, NoLoan, Lent, NoBest, BestIs, Lapsed, Bound, Retry, NotHeld, Declined, Granted, NewUnicast, NewUnrouted, NewBroadcast, Resolved, Reached, Unreached, Lender, FromUnicasts, FromBroadcasts, Unicasting, Broadcasting, Answer, Issued, Replied, NothingQueued, InFlight}
 use Rattle.model.specs.Model.{Model, Effect, withUnicasts, withUnrouted, withBroadcasts, denied, done, answers}
-use Rattle.broadcasts.specs.declared.Best as cast
+use Rattle.casting.specs.declared.Best as cast
 use Rattle.sending.specs.Rules as uni
 use Rattle.sending.specs.Lists as unis
 use Rattle.unrouted.specs.Rules as unr
-use Rattle.broadcasts.specs.Rules as bro
+use Rattle.casting.specs.Rules as bro
 
 -- a time that is handed in is too late
 abbrev pub late : ℕ → Bool

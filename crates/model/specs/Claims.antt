@@ -21,7 +21,7 @@ use Rattle.rows.specs.Moves.{atFirst, anyOf, count, told, eachTold, hasId}
 use Rattle.sending.specs.Rules as uni
 use Rattle.sending.specs.Members.{mapFits}
 use Rattle.unrouted.specs.Rules as unr
-use Rattle.broadcasts.specs.Rules as bro
+use Rattle.casting.specs.Rules as bro
 use Rattle.model.specs.Types.{None16, Opt64, None64, Some64, Schedule, Once, PassiveAck, FixedInterval, Unicast, Unrouted, Broadcast, Settings, Code, Action, Settled, Lapsed, Resolved, Reached, Unreached, Lender, FromUnicasts, FromBroadcasts, Refusal, TimeTooLate, IdsExhausted, NoCopies, NoPlace, NoSuchSend, InTheRadio, DestinationNotHeld, ResultsMismatch, MapMalformed, Denied, Accepted, NothingQueued, InFlight, Unicasting, Broadcasting}
 use Rattle.model.specs.Model.{Model, Effect, withUnicasts, withBroadcasts, answers}
 use Rattle.model.specs.Calls.{late, attemptLate, reached, matched, dequeueOf, only, routed, failing, lapsed, routeOf, cancelOf, wakeOf}

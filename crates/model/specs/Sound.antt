@@ -8,7 +8,7 @@ use Rattle.records.specs.Limits.{noId, unicastRoom, unroutedRoom, destinationRo
 use Rattle.records.specs.Records.{unicastId, unroutedId, broadcastId, destinationAddress, unicastEntry, unroutedEntry, broadcastEntry}
 use Rattle.rows.specs.Lists.{All, Rising}
 use Rattle.rows.specs.Moves.{count, hasId}
-use Rattle.broadcasts.specs.Claims.{Sane}
+use Rattle.casting.specs.Claims.{Sane}
 use Rattle.unrouted.specs.Rules.{isHeld}
 use Rattle.actions.specs.Told.{Told}
 use Rattle.model.specs.Types.{Unrouted, Sends, Answered}

@@ -10,7 +10,7 @@ use Rattle.model.specs.Calls.{enqueueUnicastOf, enqueueCopyOf, enqueueUn
 use Rattle.sending.specs.Rules.{pends}
 use Rattle.sending.specs.Members.{mapFits, memberOf}
 use Rattle.unrouted.specs.Rules.{isHeld}
-use Rattle.broadcasts.specs.Rules.{awaitedOf}
+use Rattle.casting.specs.Rules.{awaitedOf}
 
 pub data Call : Type 0 where
   EnqueueUnicast : Settings → NewUnicast → ℕ → Call

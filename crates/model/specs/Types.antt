@@ -28,7 +28,7 @@ pub use Rattle.sending.specs.declared.Loan.{Loan}
 pub use Rattle.sending.specs.declared.Loan.the-variants.{NoLoan, Lent}
 pub use Rattle.sending.specs.declared.Book.{Book}
 pub use Rattle.sending.specs.declared.Book.the-variants.{Shorts, Longs}
-pub use Rattle.broadcasts.specs.declared.Best.the-variants.{NoBest, BestIs}
+pub use Rattle.casting.specs.declared.Best.the-variants.{NoBest, BestIs}
 pub use Rattle.unrouted.specs.declared.Which.the-variants.{Lapsed, Bound}
 pub use Rattle.unrouted.specs.declared.Retry.{Retry}
 pub use Rattle.unrouted.specs.declared.Retry.the-variants.{NotHeld, Declined, Granted}

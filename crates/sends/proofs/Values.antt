@@ -14,7 +14,7 @@ use Rattle.model.specs.declared.Counts.{Counts}
 use Rattle.model.specs.declared.Did.{Did}
 use Rattle.model.specs.declared.Answered.{Answered}
 use Rattle.model.specs.declared.Abandoned.{Abandoned}
-use Rattle.lent.specs.Parts.{AbandonedAll}
+use Rattle.doing.specs.Parts.{AbandonedAll}
 use Rattle.sends.specs.Lists.{answeredBy, emptiedOf, Left}
 
 -- words and counts that hold the lists of a model are its tables by value, and sound where it is

@@ -2,7 +2,7 @@
 use Prim.Native.Nat.{ℕ}
 use mathlib.Core.List.{List}
 use lib.ListN.{length}
-use Rattle.lent.specs.Parts.{Listed}
+use Rattle.doing.specs.Parts.{Listed}
 use Rattle.model.specs.Model.{Model, sendsOf}
 use Rattle.model.specs.Calls.{abandoned, emptied}
 use Rattle.model.specs.Sound.{Sound}

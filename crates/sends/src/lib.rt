@@ -59,7 +59,7 @@ pub fn enqueue_unicast(
     let mut v = s.unrouted;
     let mut d = s.held;
     let mut b = s.broadcasts;
-    let x = lent::enqueues::enqueue_unicast(
+    let x = admitting::enqueues::enqueue_unicast(
         c,
         &mut w,
         &mut v,
@@ -91,7 +91,7 @@ pub fn enqueue_broadcast_copy(
     let mut v = s.unrouted;
     let mut d = s.held;
     let mut b = s.broadcasts;
-    let x = lent::enqueues::enqueue_broadcast_copy(
+    let x = admitting::enqueues::enqueue_broadcast_copy(
         c,
         &mut w,
         &mut v,
@@ -124,7 +124,7 @@ pub fn enqueue_unrouted_unicast(
     let mut v = s.unrouted;
     let mut d = s.held;
     let mut b = s.broadcasts;
-    let x = lent::enqueues::enqueue_unrouted_unicast(
+    let x = admitting::enqueues::enqueue_unrouted_unicast(
         c,
         &mut w,
         &mut v,
@@ -155,7 +155,7 @@ pub fn enqueue_broadcast(
     let mut v = s.unrouted;
     let mut d = s.held;
     let mut b = s.broadcasts;
-    let x = lent::enqueues::enqueue_broadcast(
+    let x = admitting::enqueues::enqueue_broadcast(
         c,
         &mut w,
         &mut v,
@@ -180,7 +180,7 @@ pub fn dequeue(s: Sends, told: &mut [u64; 560], clock: u64) -> Answered
     let mut v = s.unrouted;
     let mut d = s.held;
     let mut b = s.broadcasts;
-    let x = lent::radio::dequeue(c, &mut w, &mut v, &mut d, &mut b, told, clock);
+    let x = lending::radio::dequeue(c, &mut w, &mut v, &mut d, &mut b, told, clock);
     answered(x, w, v, d, b)
 }
 
@@ -205,7 +205,7 @@ pub fn transmitted(
     let mut v = s.unrouted;
     let mut d = s.held;
     let mut b = s.broadcasts;
-    let x = lent::radio::transmitted(
+    let x = lending::radio::transmitted(
         c,
         &mut w,
         &mut v,
@@ -263,7 +263,15 @@ pub fn retry_discovery(s: Sends, told: &mut [u64; 560], destination: u16) -> Ans
     let mut v = s.unrouted;
     let mut d = s.held;
     let mut b = s.broadcasts;
-    let x = lent::routes::retry_discovery(c, &mut w, &mut v, &mut d, &mut b, told, destination);
+    let x = admitting::routes::retry_discovery(
+        c,
+        &mut w,
+        &mut v,
+        &mut d,
+        &mut b,
+        told,
+        destination,
+    );
     answered(x, w, v, d, b)
 }
 
@@ -278,7 +286,7 @@ pub fn fail_unrouted(s: Sends, told: &mut [u64; 560], destination: u16) -> Answe
     let mut v = s.unrouted;
     let mut d = s.held;
     let mut b = s.broadcasts;
-    let x = lent::routes::fail_unrouted(c, &mut w, &mut v, &mut d, &mut b, told, destination);
+    let x = admitting::routes::fail_unrouted(c, &mut w, &mut v, &mut d, &mut b, told, destination);
     answered(x, w, v, d, b)
 }
 
@@ -301,7 +309,7 @@ pub fn route_unicasts(
     let mut v = s.unrouted;
     let mut d = s.held;
     let mut b = s.broadcasts;
-    let x = lent::routes::route_unicasts(
+    let x = admitting::routes::route_unicasts(
         c,
         &mut w,
         &mut v,

@@ -6,7 +6,7 @@ use sending::Book;
 ghost use mathlib.Core.Path.{_≡_};
 ghost use mathlib.Core.List.{map};
 ghost use Rattle.codes.specs.Codes.{quorumWord};
-ghost use Rattle.broadcasts.specs.Rules.{awaitedOf};
+ghost use Rattle.casting.specs.Rules.{awaitedOf};
 ghost use Rattle.model.specs.Model.{modelOf};
 ghost use Rattle.model.specs.Steps.{destinationsOf};
 ghost use Rattle.model.specs.Sound.{Sound};

@@ -10,7 +10,7 @@ ghost use mathlib.Core.Path.{_≡_};
 ghost use Prim.Native.Nat.{_≤_};
 ghost use Rattle.events.specs.Routes.{resultsIn};
 ghost use Rattle.model.specs.Model.{lentModel, SoundTables, Does};
-ghost use Rattle.lent.specs.Parts.{quietly};
+ghost use Rattle.doing.specs.Parts.{quietly};
 ghost use Rattle.steps.specs.Applied.{effectOf, armIn};
 
 // Nothing is told.
@@ -71,14 +71,14 @@ fn signal(
     ensures { λ r. ⌜ Does (effectOf (lentModel c (now (w .entry)) (now (v .entry)) (now (d .entry)) (now (b .entry))) s e (resultsIn (now (body .entry)))) (now (told .entry)) (now (w .exit)) (now (v .exit)) (now (d .exit)) (now (b .exit)) (now (told .exit)) r ⌝ }
 {
     match e {
-        Event::OnDequeue(t) => lent::radio::dequeue(c, w, v, d, b, told, t),
+        Event::OnDequeue(t) => lending::radio::dequeue(c, w, v, d, b, told, t),
         Event::OnPoll(t, eui, nwk) => lent::devices::poll(c, w, v, d, b, told, eui, nwk, t),
         Event::OnAck(k) => lent::devices::aps_ack_received(c, w, v, d, b, told, k),
-        Event::OnRetry(k) => lent::routes::retry_discovery(c, w, v, d, b, told, k),
-        Event::OnFail(k) => lent::routes::fail_unrouted(c, w, v, d, b, told, k),
+        Event::OnRetry(k) => admitting::routes::retry_discovery(c, w, v, d, b, told, k),
+        Event::OnFail(k) => admitting::routes::fail_unrouted(c, w, v, d, b, told, k),
         Event::OnRoute(t, k, n) => {
             let results = events::routes::results_in(body);
-            lent::routes::route_unicasts(c, w, v, d, b, told, s, k, t, results, n)
+            admitting::routes::route_unicasts(c, w, v, d, b, told, s, k, t, results, n)
         }
         Event::OnDelivered(k) => lent::devices::broadcast_delivered(c, w, v, d, b, told, k),
         Event::OnDrop(eui, nwk) => {
@@ -106,15 +106,17 @@ pub fn apply(
     ensures { λ r. ⌜ Does (effectOf (lentModel c (now (w .entry)) (now (v .entry)) (now (d .entry)) (now (b .entry))) s e (resultsIn (now (body .entry)))) (now (told .entry)) (now (w .exit)) (now (v .exit)) (now (d .exit)) (now (b .exit)) (now (told .exit)) r ⌝ }
 {
     match e {
-        Event::OnUnicast(t, u) => { lent::enqueues::enqueue_unicast(c, w, v, d, b, told, s, u, t) }
+        Event::OnUnicast(t, u) => {
+            admitting::enqueues::enqueue_unicast(c, w, v, d, b, told, s, u, t)
+        }
         Event::OnCopy(id, t, u) => {
-            lent::enqueues::enqueue_broadcast_copy(c, w, v, d, b, told, s, id, u, t)
+            admitting::enqueues::enqueue_broadcast_copy(c, w, v, d, b, told, s, id, u, t)
         }
         Event::OnUnrouted(t, u) => {
-            lent::enqueues::enqueue_unrouted_unicast(c, w, v, d, b, told, s, u, t)
+            admitting::enqueues::enqueue_unrouted_unicast(c, w, v, d, b, told, s, u, t)
         }
         Event::OnBroadcast(t, u) => {
-            lent::enqueues::enqueue_broadcast(c, w, v, d, b, told, s, u, t)
+            admitting::enqueues::enqueue_broadcast(c, w, v, d, b, told, s, u, t)
         }
         Event::OnReport {
             from,
@@ -124,7 +126,7 @@ pub fn apply(
             clock,
             delay,
         } => {
-            lent::radio::transmitted(c, w, v, d, b, told, from, id, frame, result, clock, delay)
+            lending::radio::transmitted(c, w, v, d, b, told, from, id, frame, result, clock, delay)
         }
         _ => signal(c, w, v, d, b, told, s, e, body),
     }

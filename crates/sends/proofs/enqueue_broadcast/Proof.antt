@@ -5,7 +5,7 @@ use Rattle.sends.proofs.enqueue_broadcast.Statement.{statement}
 use Rattle.sends.proofs.enqueue_broadcast.Tie as tie
 use Rattle.sends.proofs.enqueue_broadcast.Reads as reads
 use Rattle.sends.proofs.enqueue_broadcast.Lts as lts
-use Rattle.lent.proofs.enqueues.enqueue_broadcast.Reads as enqueue-broadcast-reads
+use Rattle.admitting.proofs.enqueues.enqueue_broadcast.Reads as enqueue-broadcast-reads
 use Rattle.sends.proofs.answered.Reads as answered-reads
 
 enqueue-broadcast-requires : tie.Need-enqueue-broadcast-requires

@@ -5,7 +5,7 @@ use Rattle.sends.proofs.enqueue_broadcast_copy.Statement.{statement}
 use Rattle.sends.proofs.enqueue_broadcast_copy.Tie as tie
 use Rattle.sends.proofs.enqueue_broadcast_copy.Reads as reads
 use Rattle.sends.proofs.enqueue_broadcast_copy.Lts as lts
-use Rattle.lent.proofs.enqueues.enqueue_broadcast_copy.Reads as enqueue-broadcast-copy-reads
+use Rattle.admitting.proofs.enqueues.enqueue_broadcast_copy.Reads as enqueue-broadcast-copy-reads
 use Rattle.sends.proofs.answered.Reads as answered-reads
 
 enqueue-broadcast-copy-requires : tie.Need-enqueue-broadcast-copy-requires

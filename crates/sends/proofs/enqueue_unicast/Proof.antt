@@ -5,7 +5,7 @@ use Rattle.sends.proofs.enqueue_unicast.Statement.{statement}
 use Rattle.sends.proofs.enqueue_unicast.Tie as tie
 use Rattle.sends.proofs.enqueue_unicast.Reads as reads
 use Rattle.sends.proofs.enqueue_unicast.Lts as lts
-use Rattle.lent.proofs.enqueues.enqueue_unicast.Reads as enqueue-unicast-reads
+use Rattle.admitting.proofs.enqueues.enqueue_unicast.Reads as enqueue-unicast-reads
 use Rattle.sends.proofs.answered.Reads as answered-reads
 
 enqueue-unicast-requires : tie.Need-enqueue-unicast-requires

@@ -5,7 +5,7 @@ use Rattle.sends.proofs.enqueue_unrouted_unicast.Statement.{statement}
 use Rattle.sends.proofs.enqueue_unrouted_unicast.Tie as tie
 use Rattle.sends.proofs.enqueue_unrouted_unicast.Reads as reads
 use Rattle.sends.proofs.enqueue_unrouted_unicast.Lts as lts
-use Rattle.lent.proofs.enqueues.enqueue_unrouted_unicast.Reads as enqueue-unrouted-unicast-reads
+use Rattle.admitting.proofs.enqueues.enqueue_unrouted_unicast.Reads as enqueue-unrouted-unicast-reads
 use Rattle.sends.proofs.answered.Reads as answered-reads
 
 enqueue-unrouted-unicast-requires : tie.Need-enqueue-unrouted-unicast-requires

@@ -5,7 +5,7 @@ use Rattle.sends.proofs.fail_unrouted.Statement.{statement}
 use Rattle.sends.proofs.fail_unrouted.Tie as tie
 use Rattle.sends.proofs.fail_unrouted.Reads as reads
 use Rattle.sends.proofs.fail_unrouted.Lts as lts
-use Rattle.lent.proofs.routes.fail_unrouted.Reads as fail-unrouted-reads
+use Rattle.admitting.proofs.routes.fail_unrouted.Reads as fail-unrouted-reads
 use Rattle.sends.proofs.answered.Reads as answered-reads
 
 fail-unrouted-requires : tie.Need-fail-unrouted-requires

@@ -5,7 +5,7 @@ use Rattle.sends.proofs.retry_discovery.Statement.{statement}
 use Rattle.sends.proofs.retry_discovery.Tie as tie
 use Rattle.sends.proofs.retry_discovery.Reads as reads
 use Rattle.sends.proofs.retry_discovery.Lts as lts
-use Rattle.lent.proofs.routes.retry_discovery.Reads as retry-discovery-reads
+use Rattle.admitting.proofs.routes.retry_discovery.Reads as retry-discovery-reads
 use Rattle.sends.proofs.answered.Reads as answered-reads
 
 retry-discovery-requires : tie.Need-retry-discovery-requires

@@ -5,7 +5,7 @@ use Rattle.sends.proofs.route_unicasts.Statement.{statement}
 use Rattle.sends.proofs.route_unicasts.Tie as tie
 use Rattle.sends.proofs.route_unicasts.Reads as reads
 use Rattle.sends.proofs.route_unicasts.Lts as lts
-use Rattle.lent.proofs.routes.route_unicasts.Reads as route-unicasts-reads
+use Rattle.admitting.proofs.routes.route_unicasts.Reads as route-unicasts-reads
 use Rattle.sends.proofs.answered.Reads as answered-reads
 
 route-unicasts-requires : tie.Need-route-unicasts-requires

@@ -5,7 +5,7 @@ use Rattle.sends.proofs.transmitted.Statement.{statement}
 use Rattle.sends.proofs.transmitted.Tie as tie
 use Rattle.sends.proofs.transmitted.Reads as reads
 use Rattle.sends.proofs.transmitted.Lts as lts
-use Rattle.lent.proofs.radio.transmitted.Reads as transmitted-reads
+use Rattle.lending.proofs.radio.transmitted.Reads as transmitted-reads
 use Rattle.sends.proofs.answered.Reads as answered-reads
 
 transmitted-requires : tie.Need-transmitted-requires

@@ -5,11 +5,11 @@ use Rattle.steps.proofs.apply.Statement.{statement}
 use Rattle.steps.proofs.apply.Tie as tie
 use Rattle.steps.proofs.apply.Reads as reads
 use Rattle.steps.proofs.apply.Lts as lts
-use Rattle.lent.proofs.enqueues.enqueue_broadcast.Reads as enqueue-broadcast-reads
-use Rattle.lent.proofs.enqueues.enqueue_broadcast_copy.Reads as enqueue-broadcast-copy-reads
-use Rattle.lent.proofs.enqueues.enqueue_unicast.Reads as enqueue-unicast-reads
-use Rattle.lent.proofs.enqueues.enqueue_unrouted_unicast.Reads as enqueue-unrouted-unicast-reads
-use Rattle.lent.proofs.radio.transmitted.Reads as transmitted-reads
+use Rattle.admitting.proofs.enqueues.enqueue_broadcast.Reads as enqueue-broadcast-reads
+use Rattle.admitting.proofs.enqueues.enqueue_broadcast_copy.Reads as enqueue-broadcast-copy-reads
+use Rattle.admitting.proofs.enqueues.enqueue_unicast.Reads as enqueue-unicast-reads
+use Rattle.admitting.proofs.enqueues.enqueue_unrouted_unicast.Reads as enqueue-unrouted-unicast-reads
+use Rattle.lending.proofs.radio.transmitted.Reads as transmitted-reads
 use Rattle.steps.proofs.signal.Reads as signal-reads
 
 enum-known-e : tie.Need-enum-known-e

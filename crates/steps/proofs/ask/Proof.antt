@@ -1,8 +1,8 @@
 -- A question has its answer, what is malformed 14, and what the run handles itself is accepted: the tables stay.
 use mathlib.Core.Path.{_∙_, ap}
 use mathlib.Core.Bool.{Bool}
-use Rattle.lent.specs.Parts.{quietly}
-use Rattle.lent.proofs.Doings.{does-as, did-as, does-quiet}
+use Rattle.doing.specs.Parts.{quietly}
+use Rattle.doing.proofs.Doings.{does-as, did-as, does-quiet}
 use Rattle.steps.specs.Types.{Replied}
 use Rattle.steps.proofs.Arms.{past-ask}
 use borrow.Author.Needs.{needs}

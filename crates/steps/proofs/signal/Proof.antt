@@ -12,10 +12,10 @@ use Rattle.lent.proofs.devices.drop_indirect_unicasts.Reads as drop-indirect-un
 use Rattle.lent.proofs.devices.poll.Reads as poll-reads
 use Rattle.lent.proofs.ends.cancel.Reads as cancel-reads
 use Rattle.lent.proofs.ends.tick.Reads as tick-reads
-use Rattle.lent.proofs.radio.dequeue.Reads as dequeue-reads
-use Rattle.lent.proofs.routes.fail_unrouted.Reads as fail-unrouted-reads
-use Rattle.lent.proofs.routes.retry_discovery.Reads as retry-discovery-reads
-use Rattle.lent.proofs.routes.route_unicasts.Reads as route-unicasts-reads
+use Rattle.lending.proofs.radio.dequeue.Reads as dequeue-reads
+use Rattle.admitting.proofs.routes.fail_unrouted.Reads as fail-unrouted-reads
+use Rattle.admitting.proofs.routes.retry_discovery.Reads as retry-discovery-reads
+use Rattle.admitting.proofs.routes.route_unicasts.Reads as route-unicasts-reads
 use Rattle.steps.proofs.ask.Reads as ask-reads
 
 enum-known-e : tie.Need-enum-known-e

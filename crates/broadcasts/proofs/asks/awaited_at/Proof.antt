@@ -1,11 +1,11 @@
-use Rattle.broadcasts.specs.Rules.{awaitedHead}
+use Rattle.casting.specs.Rules.{awaitedHead}
 use mathlib.Core.Path.{ap, _∙_}
 use borrow.Author.Needs.{needs}
 use Rattle.broadcasts.proofs.asks.awaited_at.Statement.{statement}
 use Rattle.broadcasts.proofs.asks.awaited_at.Tie as tie
 use Rattle.broadcasts.proofs.asks.awaited_at.Reads as reads
 use Rattle.broadcasts.proofs.asks.awaited_at.Lts as lts
-use Rattle.broadcasts.proofs.heads.awaited.Reads as awaited-reads
+use Rattle.casting.proofs.heads.awaited.Reads as awaited-reads
 use Rattle.tables.proofs.broadcast_rows.head.Reads as head-reads
 
 head-requires : tie.Need-head-requires

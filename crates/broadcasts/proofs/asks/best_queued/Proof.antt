@@ -1,5 +1,6 @@
-use Rattle.broadcasts.specs.Rules.{bestHead, bestStep, bestOf}
-use Rattle.broadcasts.specs.Types.{BroadcastHead, NoBest}
+use Rattle.casting.specs.Rules.{bestHead, bestStep, bestOf}
+use Rattle.casting.specs.Types.{BroadcastHead}
+use Rattle.casting.specs.declared.Best.the-variants.{NoBest}
 use Rattle.rows.proofs.Promises.{fold-start, fold-turn, fold-end}
 use Rattle.tables.specs.Layouts.{broadcastTable}
 use Rattle.rows.specs.Tables.{live}
@@ -12,7 +13,7 @@ use Rattle.broadcasts.proofs.asks.best_queued.Statement.{statement}
 use Rattle.broadcasts.proofs.asks.best_queued.Tie as tie
 use Rattle.broadcasts.proofs.asks.best_queued.Reads as reads
 use Rattle.broadcasts.proofs.asks.best_queued.Lts as lts
-use Rattle.broadcasts.proofs.heads.best.Reads as best-reads
+use Rattle.casting.proofs.heads.best.Reads as best-reads
 use Rattle.tables.proofs.broadcast_rows.head.Reads as head-reads
 
 abbrev Inv-loop : tie.InvT-loop

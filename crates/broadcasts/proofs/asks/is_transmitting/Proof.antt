@@ -1,6 +1,6 @@
 use Rattle.broadcasts.proofs.Found.{missed-is, found-lt, found-is}
-use Rattle.broadcasts.specs.Rules.{inRadio, inRadioBy}
-use Rattle.broadcasts.specs.Types.{BroadcastHead}
+use Rattle.casting.specs.Rules.{inRadio, inRadioBy}
+use Rattle.casting.specs.Types.{BroadcastHead}
 use native.Mathlib.Omega.{arith}
 use mathlib.Core.Path.{refl, sym, ap, _∙_}
 use borrow.Author.Needs.{needs}
@@ -8,7 +8,7 @@ use Rattle.broadcasts.proofs.asks.is_transmitting.Statement.{statement}
 use Rattle.broadcasts.proofs.asks.is_transmitting.Tie as tie
 use Rattle.broadcasts.proofs.asks.is_transmitting.Reads as reads
 use Rattle.broadcasts.proofs.asks.is_transmitting.Lts as lts
-use Rattle.broadcasts.proofs.turns.in_radio.Reads as in-radio-reads
+use Rattle.repeating.proofs.turns.in_radio.Reads as in-radio-reads
 use Rattle.tables.proofs.broadcast_rows.find.Reads as find-reads
 use Rattle.tables.proofs.broadcast_rows.head.Reads as head-reads
 

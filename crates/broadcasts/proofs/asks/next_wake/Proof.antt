@@ -1,5 +1,5 @@
-use Rattle.broadcasts.specs.Rules.{wakeHead, wakeStep, wakeOf}
-use Rattle.broadcasts.specs.Types.{BroadcastHead, None64}
+use Rattle.casting.specs.Rules.{wakeHead, wakeStep, wakeOf}
+use Rattle.casting.specs.Types.{BroadcastHead, None64}
 use Rattle.rows.proofs.Promises.{fold-start, fold-turn, fold-end}
 use Rattle.tables.specs.Layouts.{broadcastTable}
 use Rattle.rows.specs.Tables.{live}
@@ -12,7 +12,7 @@ use Rattle.broadcasts.proofs.asks.next_wake.Statement.{statement}
 use Rattle.broadcasts.proofs.asks.next_wake.Tie as tie
 use Rattle.broadcasts.proofs.asks.next_wake.Reads as reads
 use Rattle.broadcasts.proofs.asks.next_wake.Lts as lts
-use Rattle.broadcasts.proofs.heads.wake.Reads as wake-reads
+use Rattle.casting.proofs.heads.wake.Reads as wake-reads
 use Rattle.tables.proofs.broadcast_rows.head.Reads as head-reads
 
 abbrev Inv-loop : tie.InvT-loop

@@ -1,7 +1,7 @@
 use Rattle.broadcasts.proofs.Found.{cancel-in, cancel-out, missed-answer, found-lt, barred, done}
 use Rattle.broadcasts.proofs.Plays.{plays}
-use Rattle.broadcasts.proofs.Entries.{same-cancel}
-use Rattle.broadcasts.specs.Rules.{cancelTurn}
+use Rattle.casting.proofs.Entries.{same-cancel}
+use Rattle.casting.specs.Rules.{cancelTurn}
 use native.Mathlib.Omega.{arith}
 use mathlib.Core.Path.{refl, sym, _∙_}
 use borrow.Author.Needs.{needs}
@@ -10,8 +10,8 @@ use Rattle.broadcasts.proofs.moves.cancel.Tie as tie
 use Rattle.broadcasts.proofs.moves.cancel.Reads as reads
 use Rattle.broadcasts.proofs.moves.cancel.Lts as lts
 use Rattle.broadcasts.proofs.moves.play.Reads as play-reads
-use Rattle.broadcasts.proofs.turns.cancel.Reads as cancel-reads
-use Rattle.broadcasts.proofs.turns.in_radio.Reads as in-radio-reads
+use Rattle.repeating.proofs.turns.cancel.Reads as cancel-reads
+use Rattle.repeating.proofs.turns.in_radio.Reads as in-radio-reads
 use Rattle.tables.proofs.broadcast_rows.find.Reads as find-reads
 use Rattle.tables.proofs.broadcast_rows.load.Reads as load-reads
 

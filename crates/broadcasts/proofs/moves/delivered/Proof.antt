@@ -1,9 +1,9 @@
-use Rattle.broadcasts.proofs.Scans.{scanned-lt}
+use Rattle.casting.proofs.Scans.{scanned-lt}
 use Rattle.broadcasts.proofs.Plays.{plays, as-played}
-use Rattle.broadcasts.proofs.Entries.{same-delivered}
+use Rattle.casting.proofs.Entries.{same-delivered}
 use Rattle.actions.proofs.Sweeps.{turn-found, turn-missed}
 use Rattle.rows.proofs.Promises.{here-some, nowhere-none}
-use Rattle.broadcasts.specs.Rules.{keyed, deliveredTurn}
+use Rattle.casting.specs.Rules.{keyed, deliveredTurn}
 use native.Mathlib.Omega.{arith}
 use mathlib.Core.Path.{sym, _∙_}
 use borrow.Author.Needs.{needs}
@@ -13,7 +13,7 @@ use Rattle.broadcasts.proofs.moves.delivered.Reads as reads
 use Rattle.broadcasts.proofs.moves.delivered.Lts as lts
 use Rattle.broadcasts.proofs.moves.first_keyed.Reads as first-keyed-reads
 use Rattle.broadcasts.proofs.moves.play.Reads as play-reads
-use Rattle.broadcasts.proofs.turns.delivered.Reads as delivered-reads
+use Rattle.repeating.proofs.turns.delivered.Reads as delivered-reads
 use Rattle.tables.proofs.broadcast_rows.load.Reads as load-reads
 
 first-keyed-requires : tie.Need-first-keyed-requires

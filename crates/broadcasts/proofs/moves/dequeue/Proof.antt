@@ -7,7 +7,7 @@ use Rattle.broadcasts.proofs.moves.dequeue.Statement.{statement}
 use Rattle.broadcasts.proofs.moves.dequeue.Tie as tie
 use Rattle.broadcasts.proofs.moves.dequeue.Reads as reads
 use Rattle.broadcasts.proofs.moves.dequeue.Lts as lts
-use Rattle.broadcasts.proofs.turns.dequeued.Reads as dequeued-reads
+use Rattle.repeating.proofs.turns.dequeued.Reads as dequeued-reads
 use Rattle.tables.proofs.broadcast_rows.find.Reads as find-reads
 use Rattle.tables.proofs.broadcast_rows.load.Reads as load-reads
 use Rattle.tables.proofs.broadcast_rows.store.Reads as store-reads

@@ -3,7 +3,7 @@ use Rattle.broadcasts.proofs.moves.enqueue.Statement.{statement}
 use Rattle.broadcasts.proofs.moves.enqueue.Tie as tie
 use Rattle.broadcasts.proofs.moves.enqueue.Reads as reads
 use Rattle.broadcasts.proofs.moves.enqueue.Lts as lts
-use Rattle.broadcasts.proofs.turns.admitted.Reads as admitted-reads
+use Rattle.repeating.proofs.turns.admitted.Reads as admitted-reads
 use Rattle.tables.proofs.broadcast_rows.insert.Reads as insert-reads
 
 admitted-requires : tie.Need-admitted-requires

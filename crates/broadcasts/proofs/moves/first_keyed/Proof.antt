@@ -1,5 +1,5 @@
-use Rattle.broadcasts.proofs.Scans.{rowAt, key-tested}
-use Rattle.broadcasts.specs.Rules.{keyed}
+use Rattle.casting.proofs.Scans.{rowAt, key-tested}
+use Rattle.casting.specs.Rules.{keyed}
 use Rattle.rows.proofs.Promises.{scan-first, scan-here, scan-on, scan-end}
 use Rattle.tables.specs.Layouts.{broadcastTable}
 use Rattle.rows.specs.Moves.{firstAt, placeFrom}
@@ -14,7 +14,7 @@ use Rattle.broadcasts.proofs.moves.first_keyed.Statement.{statement}
 use Rattle.broadcasts.proofs.moves.first_keyed.Tie as tie
 use Rattle.broadcasts.proofs.moves.first_keyed.Reads as reads
 use Rattle.broadcasts.proofs.moves.first_keyed.Lts as lts
-use Rattle.broadcasts.proofs.heads.is_keyed.Reads as is-keyed-reads
+use Rattle.casting.proofs.heads.is_keyed.Reads as is-keyed-reads
 use Rattle.tables.proofs.broadcast_rows.schedule.Reads as schedule-reads
 
 abbrev Inv-loop : tie.InvT-loop

@@ -1,6 +1,6 @@
 use Rattle.broadcasts.proofs.Plays.{stands-kept, stands-handed}
 use Rattle.actions.proofs.Lines.{told-none}
-use Rattle.broadcasts.specs.Rules.{turnB}
+use Rattle.casting.specs.Rules.{turnB}
 use native.Mathlib.Omega.{arith}
 use mathlib.Core.Path.{ap}
 use borrow.Author.Needs.{needs}

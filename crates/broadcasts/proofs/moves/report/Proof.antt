@@ -1,7 +1,7 @@
 use Rattle.broadcasts.proofs.Found.{not-true, not-false, report-out, report-other, report-in, missed-answer, found-lt, barred, done}
 use Rattle.broadcasts.proofs.Plays.{plays}
-use Rattle.broadcasts.proofs.Entries.{same-report}
-use Rattle.broadcasts.specs.Rules.{reportTurn}
+use Rattle.casting.proofs.Entries.{same-report}
+use Rattle.casting.specs.Rules.{reportTurn}
 use native.Mathlib.Omega.{arith}
 use mathlib.Core.Path.{refl, sym, _∙_}
 use borrow.Author.Needs.{needs}
@@ -10,8 +10,8 @@ use Rattle.broadcasts.proofs.moves.report.Tie as tie
 use Rattle.broadcasts.proofs.moves.report.Reads as reads
 use Rattle.broadcasts.proofs.moves.report.Lts as lts
 use Rattle.broadcasts.proofs.moves.play.Reads as play-reads
-use Rattle.broadcasts.proofs.turns.in_radio.Reads as in-radio-reads
-use Rattle.broadcasts.proofs.turns.report.Reads as report-reads
+use Rattle.repeating.proofs.turns.in_radio.Reads as in-radio-reads
+use Rattle.repeating.proofs.turns.report.Reads as report-reads
 use Rattle.tables.proofs.broadcast_rows.find.Reads as find-reads
 use Rattle.tables.proofs.broadcast_rows.load.Reads as load-reads
 

@@ -1,7 +1,7 @@
-use Rattle.broadcasts.proofs.Scans.{rowAt, stirs-tested}
+use Rattle.casting.proofs.Scans.{rowAt, stirs-tested}
 use Rattle.broadcasts.proofs.Plays.{played-count, sweep-played}
-use Rattle.broadcasts.proofs.Ticks.{quiet}
-use Rattle.broadcasts.specs.Rules.{tickTurn}
+use Rattle.casting.proofs.Ticks.{quiet}
+use Rattle.casting.specs.Rules.{tickTurn}
 use Rattle.actions.proofs.Sweeps.{Sweeping, sweep-start, sweep-quiet, sweep-end}
 use Rattle.tables.specs.Layouts.{broadcastTable}
 use Rattle.records.specs.Records.{broadcastEntry}
@@ -13,7 +13,7 @@ use Rattle.broadcasts.proofs.moves.tick.Tie as tie
 use Rattle.broadcasts.proofs.moves.tick.Reads as reads
 use Rattle.broadcasts.proofs.moves.tick.Lts as lts
 use Rattle.broadcasts.proofs.moves.tick_at.Reads as tick-at-reads
-use Rattle.broadcasts.proofs.heads.stirs.Reads as stirs-reads
+use Rattle.casting.proofs.heads.stirs.Reads as stirs-reads
 use Rattle.tables.proofs.broadcast_rows.head.Reads as head-reads
 
 abbrev Inv-loop : tie.InvT-loop

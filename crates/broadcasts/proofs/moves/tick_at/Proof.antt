@@ -1,13 +1,13 @@
 use Rattle.broadcasts.proofs.Plays.{plays, as-played}
-use Rattle.broadcasts.proofs.Entries.{same-tick}
-use Rattle.broadcasts.specs.Rules.{tickTurn}
+use Rattle.casting.proofs.Entries.{same-tick}
+use Rattle.casting.specs.Rules.{tickTurn}
 use borrow.Author.Needs.{needs}
 use Rattle.broadcasts.proofs.moves.tick_at.Statement.{statement}
 use Rattle.broadcasts.proofs.moves.tick_at.Tie as tie
 use Rattle.broadcasts.proofs.moves.tick_at.Reads as reads
 use Rattle.broadcasts.proofs.moves.tick_at.Lts as lts
 use Rattle.broadcasts.proofs.moves.play.Reads as play-reads
-use Rattle.broadcasts.proofs.turns.tick.Reads as tick-reads
+use Rattle.repeating.proofs.turns.tick.Reads as tick-reads
 use Rattle.tables.proofs.broadcast_rows.load.Reads as load-reads
 
 load-requires : tie.Need-load-requires

@@ -1,10 +1,10 @@
-use Rattle.lent.proofs.Doings.{done-unicasts}
+use Rattle.doing.proofs.Doings.{done-unicasts}
 use borrow.Author.Needs.{needs}
 use Rattle.lent.proofs.devices.aps_ack_received.Statement.{statement}
 use Rattle.lent.proofs.devices.aps_ack_received.Tie as tie
 use Rattle.lent.proofs.devices.aps_ack_received.Reads as reads
 use Rattle.lent.proofs.devices.aps_ack_received.Lts as lts
-use Rattle.lent.proofs.with_unicasts.Reads as with-unicasts-reads
+use Rattle.doing.proofs.with_unicasts.Reads as with-unicasts-reads
 use Rattle.unicasts.proofs.calls.ack.Reads as ack-reads
 
 ack-requires : tie.Need-ack-requires

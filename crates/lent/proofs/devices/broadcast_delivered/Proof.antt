@@ -1,11 +1,11 @@
-use Rattle.lent.proofs.Doings.{done-broadcasts}
+use Rattle.doing.proofs.Doings.{done-broadcasts}
 use borrow.Author.Needs.{needs}
 use Rattle.lent.proofs.devices.broadcast_delivered.Statement.{statement}
 use Rattle.lent.proofs.devices.broadcast_delivered.Tie as tie
 use Rattle.lent.proofs.devices.broadcast_delivered.Reads as reads
 use Rattle.lent.proofs.devices.broadcast_delivered.Lts as lts
 use Rattle.broadcasts.proofs.moves.delivered.Reads as delivered-reads
-use Rattle.lent.proofs.with_broadcasts.Reads as with-broadcasts-reads
+use Rattle.doing.proofs.with_broadcasts.Reads as with-broadcasts-reads
 
 delivered-requires : tie.Need-delivered-requires
 delivered-requires c κs = search needs

@@ -1,10 +1,10 @@
-use Rattle.lent.proofs.Doings.{done-unicasts}
+use Rattle.doing.proofs.Doings.{done-unicasts}
 use borrow.Author.Needs.{needs}
 use Rattle.lent.proofs.devices.drop_indirect_unicasts.Statement.{statement}
 use Rattle.lent.proofs.devices.drop_indirect_unicasts.Tie as tie
 use Rattle.lent.proofs.devices.drop_indirect_unicasts.Reads as reads
 use Rattle.lent.proofs.devices.drop_indirect_unicasts.Lts as lts
-use Rattle.lent.proofs.with_unicasts.Reads as with-unicasts-reads
+use Rattle.doing.proofs.with_unicasts.Reads as with-unicasts-reads
 use Rattle.unicasts.proofs.calls.drop_indirect.Reads as drop-indirect-reads
 
 drop-indirect-requires : tie.Need-drop-indirect-requires

@@ -1,17 +1,17 @@
 use mathlib.Core.Path.{_≡_, sym, ap, _∙_}
 use mathlib.Core.Bool.{Bool, true, false}
 use Rattle.model.specs.Calls.{late}
-use Rattle.lent.specs.Types.{TimeTooLate, Replied}
-use Rattle.lent.specs.Parts.{quietly}
-use Rattle.lent.proofs.Doings.{does-deny, lent-unicasts}
+use Rattle.doing.specs.Types.{TimeTooLate, Replied}
+use Rattle.doing.specs.Parts.{quietly}
+use Rattle.doing.proofs.Doings.{does-deny, lent-unicasts}
 use borrow.Author.Needs.{needs}
 use Rattle.lent.proofs.devices.poll.Statement.{statement}
 use Rattle.lent.proofs.devices.poll.Tie as tie
 use Rattle.lent.proofs.devices.poll.Reads as reads
 use Rattle.lent.proofs.devices.poll.Lts as lts
-use Rattle.lent.proofs.denied.Reads as denied-reads
-use Rattle.lent.proofs.quiet.Reads as quiet-reads
-use Rattle.lent.proofs.too_late.Reads as too-late-reads
+use Rattle.doing.proofs.denied.Reads as denied-reads
+use Rattle.doing.proofs.quiet.Reads as quiet-reads
+use Rattle.doing.proofs.too_late.Reads as too-late-reads
 use Rattle.unicasts.proofs.calls.poll.Reads as poll-reads
 
 too-late-requires : tie.Need-too-late-requires

@@ -11,12 +11,12 @@ use Rattle.rows.proofs.Promises.{here-some, nowhere-none, hit-lookup, miss-look
 use Rattle.tables.specs.Layouts.{unicastTable, broadcastTable}
 use Rattle.actions.proofs.Lines.{told-append}
 use Rattle.sending.specs.Rules.{sentCopy}
-use Rattle.broadcasts.specs.Rules.{cancelTurn}
-use Rattle.broadcasts.specs.declared.Outcome.the-variants.{Refused, Done}
+use Rattle.casting.specs.Rules.{cancelTurn}
+use Rattle.casting.specs.declared.Outcome.the-variants.{Refused, Done}
 use Rattle.model.specs.Calls.{castBar, cancelBroadcast}
 use Rattle.model.specs.Model.{lentModel}
 use Rattle.model.proofs.Fews.{first-two}
-use Rattle.lent.specs.Types.{NoSuchSend, InTheRadio}
+use Rattle.doing.specs.Types.{NoSuchSend, InTheRadio}
 use Rattle.lent.proofs.Barrings.{does-barred, answered-as, cast-sent, cast-own}
 use borrow.Author.Needs.{needs}
 use Rattle.lent.proofs.ends.cancel_broadcast.Statement.{statement}
@@ -24,7 +24,7 @@ use Rattle.lent.proofs.ends.cancel_broadcast.Tie as tie
 use Rattle.lent.proofs.ends.cancel_broadcast.Reads as reads
 use Rattle.lent.proofs.ends.cancel_broadcast.Lts as lts
 use Rattle.broadcasts.proofs.moves.cancel.Reads as cancel-reads
-use Rattle.lent.proofs.denied.Reads as denied-reads
+use Rattle.doing.proofs.denied.Reads as denied-reads
 use Rattle.tables.proofs.broadcast_rows.find.Reads as find-reads
 use Rattle.scanning.proofs.asks.copy_in_radio.Reads as copy-in-radio-reads
 use Rattle.unicasts.proofs.calls.cancel_copies.Reads as cancel-copies-reads

@@ -1,11 +1,11 @@
-use Rattle.lent.proofs.Enters.{refused-unicast, turned-unicast}
+use Rattle.doing.proofs.Enters.{refused-unicast, turned-unicast}
 use borrow.Author.Needs.{needs}
 use Rattle.lent.proofs.ends.cancel_unicast.Statement.{statement}
 use Rattle.lent.proofs.ends.cancel_unicast.Tie as tie
 use Rattle.lent.proofs.ends.cancel_unicast.Reads as reads
 use Rattle.lent.proofs.ends.cancel_unicast.Lts as lts
-use Rattle.lent.proofs.denied.Reads as denied-reads
-use Rattle.lent.proofs.with_unicasts.Reads as with-unicasts-reads
+use Rattle.doing.proofs.denied.Reads as denied-reads
+use Rattle.doing.proofs.with_unicasts.Reads as with-unicasts-reads
 use Rattle.unicasts.proofs.calls.cancel.Reads as cancel-reads
 
 cancel-requires : tie.Need-cancel-requires

@@ -10,16 +10,16 @@ use Rattle.unrouted.specs.declared.Which.the-variants.{Lapsed}
 use Rattle.actions.proofs.Lines.{told-append}
 use Rattle.model.specs.Calls.{late}
 use Rattle.model.proofs.Fews.{each-two, sweep-one}
-use Rattle.lent.specs.Types.{TimeTooLate}
-use Rattle.lent.proofs.Doings.{does-deny}
+use Rattle.doing.specs.Types.{TimeTooLate}
+use Rattle.doing.proofs.Doings.{does-deny}
 use borrow.Author.Needs.{needs}
 use Rattle.lent.proofs.ends.tick.Statement.{statement}
 use Rattle.lent.proofs.ends.tick.Tie as tie
 use Rattle.lent.proofs.ends.tick.Reads as reads
 use Rattle.lent.proofs.ends.tick.Lts as lts
 use Rattle.broadcasts.proofs.moves.tick.Reads as moves-tick-reads
-use Rattle.lent.proofs.denied.Reads as denied-reads
-use Rattle.lent.proofs.too_late.Reads as too-late-reads
+use Rattle.doing.proofs.denied.Reads as denied-reads
+use Rattle.doing.proofs.too_late.Reads as too-late-reads
 use Rattle.unicasts.proofs.calls.tick.Reads as calls-tick-reads
 use Rattle.unrouted.proofs.sweep.Reads as sweep-reads
 

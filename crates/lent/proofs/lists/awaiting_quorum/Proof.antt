@@ -6,7 +6,7 @@ use lib.ListN.{drop}
 use Rattle.codes.specs.Codes.{quorumWord}
 use Rattle.rows.specs.Tables.{live}
 use Rattle.tables.specs.Layouts.{broadcastTable}
-use Rattle.broadcasts.specs.Rules.{listed, awaitedOf}
+use Rattle.casting.specs.Rules.{listed, awaitedOf}
 use Rattle.lent.proofs.Fillings.{Filling, fill-start, fill-turn, fill-end, key-low, keys-left, keys-none}
 use borrow.Author.Needs.{needs}
 use Rattle.lent.proofs.lists.awaiting_quorum.Statement.{statement}

@@ -6,7 +6,7 @@ use Rattle.rows.specs.Tables.{live}
 use Rattle.rows.proofs.Promises.{held-length}
 use Rattle.tables.specs.Layouts.{unicastTable}
 use Rattle.model.specs.Steps.{membersOf}
-use Rattle.lent.specs.Types.{Some64}
+use Rattle.doing.specs.Types.{Some64}
 use Rattle.lent.proofs.Fillings.{Filling, fill-start, fill-one, fill-turn, fill-end, after, after-none, members-few, next-left, next-none}
 use borrow.Author.Needs.{needs}
 use Rattle.lent.proofs.lists.members.Statement.{statement}

@@ -1,0 +1,3 @@
+pub mod Doings
+pub mod Enters
+pub mod Ones
