@@ -12,7 +12,7 @@ use lib.Seq.{drop-cons, getD-drop, drop-drop}
 use lib.Dec.{eqb}
 use borrow.Author.Tests.{eq-eqb, ne-eqb, eqb-true}
 use Rattle.records.proofs.Cases.{eq-or-ne, both}
-use Rattle.trace.specs.Run.{runBytes, Ran}
+use Rattle.runs.specs.Run.{runBytes, Ran}
 use Rattle.replay.specs.Judging.{same, holds, agreesOf}
 
 -- inside a list it does not matter what would stand past its end

@@ -2,7 +2,7 @@
 ghost use mathlib.Core.Path.{_≡_};
 ghost use Prim.Native.Nat.{_≤_};
 ghost use lib.ListN.{getD, replicate};
-ghost use Rattle.trace.specs.Run.{runBytes};
+ghost use Rattle.runs.specs.Run.{runBytes};
 ghost use Rattle.replay.specs.Judging.{agreesOf, same};
 
 // What is to stand at a place: an answer's byte, and past the answers the pattern.

@@ -1,9 +1,3 @@
--- The laws of the run.
-pub mod Callers
+-- The laws of the count.
 pub mod Counting
 pub mod Counted
-pub mod Running
-pub mod Walking
-pub mod Claims
-pub mod Histories
-pub mod Examples

@@ -1,5 +1,2 @@
--- What a trace run is.
+-- How a trace is read.
 pub mod Reading
-pub mod Run
-pub mod Claims
-pub mod Histories

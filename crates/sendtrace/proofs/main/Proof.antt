@@ -1,4 +1,4 @@
-use Rattle.trace.proofs.Callers.{within}
+use Rattle.runs.proofs.Callers.{within}
 use lib.Seq.{length-take-le}
 use mathlib.Core.Path.{sym}
 use borrow.Author.Needs.{needs}

@@ -1,12 +1,12 @@
 -- Too little room, too long a trace, or the walk.
-use Rattle.trace.proofs.Running.{tiny, over}
+use Rattle.runs.proofs.Running.{tiny, over}
 use borrow.Author.Needs.{needs}
 use Rattle.trace.proofs.run.Statement.{statement}
 use Rattle.trace.proofs.run.Tie as tie
 use Rattle.trace.proofs.run.Reads as reads
 use Rattle.trace.proofs.run.Lts as lts
-use Rattle.trace.proofs.end.Reads as end-reads
-use Rattle.trace.proofs.walk.Reads as walk-reads
+use Rattle.walking.proofs.end.Reads as end-reads
+use Rattle.walking.proofs.walk.Reads as walk-reads
 
 returns : tie.Need-returns
 returns c =

@@ -4,7 +4,7 @@ use mathlib.Core.Path.{ap, _∙_}
 use mathlib.Core.List.{List}
 use native.Mathlib.Omega.{arith}
 use lib.ListN.{length, drop, length-append}
-use Rattle.trace.specs.Run.{runBytes, Ran}
+use Rattle.runs.specs.Run.{runBytes, Ran}
 
 -- the count is within the output
 pub within : {s d₀ d′ : List ℕ} {n : ℕ} → Ran s d₀ n d′ → n ≤ length d′

@@ -19,7 +19,7 @@ use Rattle.answers.specs.Bytes.{Written}
 use Rattle.answers.specs.Items.{itemsBytes, endBytes}
 use Rattle.exchange.specs.World.{World, Step, freshWorld}
 use Rattle.exchange.specs.Answering.{Answering, overfull}
-use Rattle.trace.specs.Run.{stepBy, bodyIn, answerOf, turnOf, runFrom, runBytes, Ran}
+use Rattle.runs.specs.Run.{stepBy, bodyIn, answerOf, turnOf, runFrom, runBytes, Ran}
 
 -- s the trace, d₀ the output as it came, d the output now, w the world, at the place in the trace, o the bytes written
 pub record Running (s d₀ d : List ℕ) (w : World) (at o : ℕ) : Type 0 where

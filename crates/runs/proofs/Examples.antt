@@ -19,9 +19,9 @@ use Rattle.events.specs.Arrivals.{broadcastOf}
 use Rattle.events.specs.Signals.{dequeueOf, reportOf, pollOf, hasAwaitingOf}
 use Rattle.events.specs.Routes.{resultsIn}
 use Rattle.exchange.specs.World.{freshWorld}
-use Rattle.trace.specs.Run.{runBytes, Ran}
-use Rattle.trace.specs.Claims.{wentOver, readsOf}
-use Rattle.trace.specs.Histories.{callsOver, toldOver, whereabouts}
+use Rattle.runs.specs.Run.{runBytes, Ran}
+use Rattle.runs.specs.Claims.{wentOver, readsOf}
+use Rattle.runs.specs.Histories.{callsOver, toldOver, whereabouts}
 
 abbrev zeros : ℕ → List ℕ
 zeros n = replicate n 0

@@ -20,8 +20,8 @@ use Rattle.events.proofs.Reading.{Stood, stood, body-long}
 use Rattle.answers.specs.Items.{endBytes}
 use Rattle.exchange.specs.World.{World, freshWorld}
 use Rattle.exchange.specs.Answering.{overfull}
-use Rattle.trace.specs.Run.{bodyIn, turnOf, runFrom, runBytes}
-use Rattle.trace.specs.Claims.{Read, answersTo, worldBy, bytesOf, sizeOf, answersOver, worldOver, Went, stops, reading, readBy, wentBy, wentFrom, wentOver, readsOf, statusOf, RunIs, NothingUnderSix, ReadsAreTheTrace, ReadToTheEnd, AnswersOfBoth, Begins, PrefixReads, PrefixAnswers, OneOutcome, PastStays, AlwaysEnds, AtLeastTheEnd, AtMostTheOutput}
+use Rattle.runs.specs.Run.{bodyIn, turnOf, runFrom, runBytes}
+use Rattle.runs.specs.Claims.{Read, answersTo, worldBy, bytesOf, sizeOf, answersOver, worldOver, Went, stops, reading, readBy, wentBy, wentFrom, wentOver, readsOf, statusOf, RunIs, NothingUnderSix, ReadsAreTheTrace, ReadToTheEnd, AnswersOfBoth, Begins, PrefixReads, PrefixAnswers, OneOutcome, PastStays, AlwaysEnds, AtLeastTheEnd, AtMostTheOutput}
 
 -- ---- what a run does at one place, and so over the whole
 

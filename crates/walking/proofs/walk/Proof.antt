@@ -11,14 +11,14 @@ use Rattle.events.specs.declared.Standing.the-variants.{Record}
 use Rattle.events.proofs.Reading.{Stood, stood, body-long}
 use Rattle.exchange.specs.World.{World, stepOn, worldOf}
 use Rattle.exchange.proofs.Somes.{items-some}
-use Rattle.trace.specs.Run.{stepBy, bodyIn}
-use Rattle.trace.proofs.Running.{at-end, at-unknown, at-cut}
-use Rattle.trace.proofs.Walking.{Walking, begins, six-left, answering-long, walk-full, walk-on}
+use Rattle.runs.specs.Run.{stepBy, bodyIn}
+use Rattle.runs.proofs.Running.{at-end, at-unknown, at-cut}
+use Rattle.walking.proofs.Walking.{Walking, begins, six-left, answering-long, walk-full, walk-on}
 use borrow.Author.Needs.{needs}
-use Rattle.trace.proofs.walk.Statement.{statement}
-use Rattle.trace.proofs.walk.Tie as tie
-use Rattle.trace.proofs.walk.Reads as reads
-use Rattle.trace.proofs.walk.Lts as lts
+use Rattle.walking.proofs.walk.Statement.{statement}
+use Rattle.walking.proofs.walk.Tie as tie
+use Rattle.walking.proofs.walk.Reads as reads
+use Rattle.walking.proofs.walk.Lts as lts
 use Rattle.events.proofs.reader.record_at.Reads as record-at-reads
 use Rattle.events.proofs.reader.stands_at.Reads as stands-at-reads
 use Rattle.records.proofs.numbers.default_settings.Reads as default-settings-reads
@@ -26,8 +26,8 @@ use Rattle.tables.proofs.broadcast_rows.fresh.Reads as broadcast-rows-fresh-rea
 use Rattle.tables.proofs.destination_rows.fresh.Reads as destination-rows-fresh-reads
 use Rattle.tables.proofs.unicast_rows.fresh.Reads as unicast-rows-fresh-reads
 use Rattle.tables.proofs.unrouted_rows.fresh.Reads as unrouted-rows-fresh-reads
-use Rattle.trace.proofs.end.Reads as end-reads
-use Rattle.trace.proofs.no_sends.Reads as no-sends-reads
+use Rattle.walking.proofs.end.Reads as end-reads
+use Rattle.walking.proofs.no_sends.Reads as no-sends-reads
 use Rattle.exchange.proofs.turn.Reads as turn-reads
 
 abbrev Inv-loop : tie.InvT-loop

@@ -25,8 +25,8 @@ use Rattle.answers.specs.declared.Item.{Item}
 use Rattle.answers.specs.declared.Item.the-variants.{Refused, Done, Id, Handoff, Settlement, Flight, YesNo, Time, ShortAddress, ExtendedAddress, Key, Abandonment, DestinationAddress, End}
 use Rattle.answers.specs.Items.{itemsBytes}
 use Rattle.exchange.specs.World.{World, freshWorld, stepOn, made}
-use Rattle.trace.specs.Run.{stepBy}
-use Rattle.trace.specs.Claims.{Read, worldBy, answersOver, worldOver}
+use Rattle.runs.specs.Run.{stepBy}
+use Rattle.runs.specs.Claims.{Read, worldBy, answersOver, worldOver}
 
 -- ---- the calls that a record makes: none for a setting, a pair and what is outside its form; three questions for the lists; one for every other
 

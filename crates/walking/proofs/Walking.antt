@@ -24,8 +24,8 @@ use Rattle.exchange.specs.World.{World, Step, freshWorld, worldOf}
 use Rattle.exchange.specs.Answering.{Answering, overfull}
 use Rattle.exchange.specs.Turns.{Ready, Turned}
 use Rattle.exchange.proofs.Worlds.{holds-model, holds-ready}
-use Rattle.trace.specs.Run.{stepBy, bodyIn, Ran}
-use Rattle.trace.proofs.Running.{Running, running-as, start, at-full, go-on}
+use Rattle.runs.specs.Run.{stepBy, bodyIn, Ran}
+use Rattle.runs.proofs.Running.{Running, running-as, start, at-full, go-on}
 
 pub record Walking (s d₀ d : List ℕ) (c : Counts) (ws vs ds bs told : List ℕ) (t : Settings) (es ns : List ℕ) (pairs at o : ℕ) : Type 0 where
   pub running : Running s d₀ d (worldOf c ws vs ds bs t es ns pairs) at o

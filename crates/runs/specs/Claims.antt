@@ -12,7 +12,7 @@ use Rattle.events.specs.declared.Standing.the-variants.{Record, Unknown, Cut, E
 use Rattle.answers.specs.Items.{itemsBytes, endBytes}
 use Rattle.exchange.specs.World.{World, freshWorld}
 use Rattle.exchange.specs.Answering.{overfull}
-use Rattle.trace.specs.Run.{stepBy, bodyIn, runBytes, Ran}
+use Rattle.runs.specs.Run.{stepBy, bodyIn, runBytes, Ran}
 
 -- ---- a record that was read: its kind and its body
 

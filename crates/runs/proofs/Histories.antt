@@ -40,8 +40,8 @@ use Rattle.answers.specs.Items.{itemsBytes, actionItem}
 use Rattle.answers.proofs.Lists.{items-append}
 use Rattle.listings.specs.Maps.{keysWith}
 use Rattle.exchange.specs.World.{World, Step, freshWorld, abandonment, said, refused, told, made, listItems, stepOn}
-use Rattle.trace.specs.Claims.{Read, worldBy, worldOver}
-use Rattle.trace.specs.Histories.{callsOf, callsBy, callsOver, RunIsAHistory, ToldByTheStep, itemsTo, itemsOver, Spoken, nothing, saidBy, andThen, saidIn, everTold, saidOver, AnswersAreItems, AnswersSay, tablesOver, toldOver, whereabouts, TraceLedger, TraceSuccess, TraceHandedOff}
+use Rattle.runs.specs.Claims.{Read, worldBy, worldOver}
+use Rattle.runs.specs.Histories.{callsOf, callsBy, callsOver, RunIsAHistory, ToldByTheStep, itemsTo, itemsOver, Spoken, nothing, saidBy, andThen, saidIn, everTold, saidOver, AnswersAreItems, AnswersSay, tablesOver, toldOver, whereabouts, TraceLedger, TraceSuccess, TraceHandedOff}
 
 -- ---- the events by what they are to the tables: one call, none, or the three questions
 
