@@ -5,7 +5,7 @@ use mathlib.Core.Path.{_≡_, refl}
 use lib.ListN.{length, getD}
 use Rattle.answers.specs.Types.{Opt16, None16, Some16, Verdict, Entry, Action, Transmit, Unicasting, Broadcasting, Item, Refused, Done, Id, Handoff, Settlement, Flight, YesNo, Time, ShortAddress, ExtendedAddress, Key, Abandonment, DestinationAddress, End}
 use Rattle.answers.specs.Items.{settledBytes, flightBytes, itemBytes, actionItem, actionBytes}
-use Rattle.events.specs.Kinds.{bodyOf}
+use Rattle.framing.specs.Kinds.{bodyOf}
 
 pub settled-long : (e : Entry) (v : Verdict) (hop : Opt16) → length (settledBytes e v hop) ≡ 28
 settled-long e v None16 = refl

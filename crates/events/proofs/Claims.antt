@@ -3,14 +3,14 @@ use Prim.Native.Nat.{ℕ}
 use mathlib.Core.Path.{_≡_, refl}
 use mathlib.Core.List.{List, [], _∷_, _++_}
 use lib.ListN.{length, replicate, take, drop}
-use Rattle.events.specs.Kinds.{bodyOf}
-use Rattle.events.specs.Reader.{standsAt}
+use Rattle.framing.specs.Kinds.{bodyOf}
+use Rattle.framing.specs.Reader.{standsAt}
 use Rattle.events.specs.Events.{eventOf}
 use Rattle.events.specs.Arrivals.{unicastOf, broadcastOf}
 use Rattle.events.specs.Signals.{dequeueOf, reportOf, pollOf, hasAwaitingOf}
 use Rattle.events.specs.Routes.{routeOf}
 use Rattle.events.specs.Types.{Absent, Short, UserNormal, StackCritical, OnHandoff, Once, None16, None64, OnUnicast, OnBroadcast, OnDequeue, OnPoll, OnRoute, OnHasAwaiting, Malformed}
-use Rattle.events.specs.declared.Standing.the-variants.{Record, Unknown, Cut, End}
+use Rattle.framing.specs.declared.Standing.the-variants.{Record, Unknown, Cut, End}
 
 abbrev zeros : ℕ → List ℕ
 zeros n = replicate n 0

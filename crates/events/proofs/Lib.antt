@@ -1,7 +1,3 @@
-pub mod Table
-pub mod Widths
-pub mod Bodies
-pub mod Reading
-pub mod Zeros
+-- The laws of the events.
 pub mod Sixteen
 pub mod Claims

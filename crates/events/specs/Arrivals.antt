@@ -1,8 +1,8 @@
 -- Kinds 2 to 5: the sends that are handed in. Each begins with now 8, frame 4, waiter 4, priority 1.
 use Prim.Native.Nat.{ℕ, _+_}
 use mathlib.Core.List.{List}
-use Rattle.events.specs.Bytes.{number}
-use Rattle.events.specs.Parts.{priorityBy, addressAt, confirmAt, scheduleAt}
+use Rattle.fields.specs.Bytes.{number}
+use Rattle.fields.specs.Parts.{priorityBy, addressAt, confirmAt, scheduleAt}
 use Rattle.events.specs.Types.{ReadPriority, IsPriority, WrongPriority, ReadAddress, IsAddress, WrongAddress, ReadConfirm, IsConfirm, WrongConfirm, ReadSchedule, IsSchedule, WrongSchedule, ReadUnicast, IsUnicast, WrongUnicast, Event, OnUnicast, OnCopy, OnUnrouted, OnBroadcast, Malformed}
 
 -- ---- a unicast: then hop 2, address 9, confirm 15

@@ -1,8 +1,5 @@
+-- What the events of a trace are.
 pub mod Types
-pub mod Bytes
-pub mod Kinds
-pub mod Reader
-pub mod Parts
 pub mod Arrivals
 pub mod Signals
 pub mod Routes

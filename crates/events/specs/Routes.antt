@@ -5,8 +5,8 @@ use mathlib.Core.List.{List, [], _∷_}
 use lib.Dec.{eqb, ltb}
 use lib.ListN.{length, replicate}
 use Rattle.records.specs.Pick.{pick}
-use Rattle.events.specs.Bytes.{number}
-use Rattle.events.specs.Parts.{addressAt}
+use Rattle.fields.specs.Bytes.{number}
+use Rattle.fields.specs.Parts.{addressAt}
 use Rattle.events.specs.Types.{Address, Absent, Short, Extended, Resolved, Reached, Unreached, ReadAddress, IsAddress, WrongAddress, ReadResolved, IsResolved, WrongResolved, Event, OnRoute, Malformed}
 
 -- under tag 1 hop and address are absent

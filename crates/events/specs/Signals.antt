@@ -1,8 +1,8 @@
 -- Kinds 1, 6 to 11, 13 to 16, 19, 21 and 22.
 use Prim.Native.Nat.{ℕ}
 use mathlib.Core.List.{List}
-use Rattle.events.specs.Bytes.{number}
-use Rattle.events.specs.Parts.{addressAt, keyAt, opt16By, opt64By, resultBy, lenderBy}
+use Rattle.fields.specs.Bytes.{number}
+use Rattle.fields.specs.Parts.{addressAt, keyAt, opt16By, opt64By, resultBy, lenderBy}
 use Rattle.events.specs.Types.{Absent, Short, Extended, Read16, Is16, Wrong16, Read64, Is64, Wrong64, ReadAddress, IsAddress, WrongAddress, ReadKey, IsKey, WrongKey, ReadResult, IsResult, WrongResult, ReadLender, IsLender, WrongLender, Event, OnSettings, OnDequeue, OnReport, OnPoll, OnAck, OnRetry, OnFail, OnDelivered, OnDrop, OnCancel, OnTick, OnPair, OnHasUnrouted, OnHasAwaiting, Malformed}
 
 -- 1: handoff 4, persistence 4, retries 1, attempts 1

@@ -25,26 +25,26 @@ pub use Rattle.model.specs.declared.Resolved.{Resolved}
 pub use Rattle.model.specs.declared.Resolved.the-variants.{Reached, Unreached}
 pub use Rattle.model.specs.declared.Lender.{Lender}
 pub use Rattle.model.specs.declared.Lender.the-variants.{FromUnicasts, FromBroadcasts}
-pub use Rattle.events.specs.declared.Read8.{Read8}
-pub use Rattle.events.specs.declared.Read8.the-variants.{Is8, Wrong8}
-pub use Rattle.events.specs.declared.Read16.{Read16}
-pub use Rattle.events.specs.declared.Read16.the-variants.{Is16, Wrong16}
-pub use Rattle.events.specs.declared.Read64.{Read64}
-pub use Rattle.events.specs.declared.Read64.the-variants.{Is64, Wrong64}
-pub use Rattle.events.specs.declared.ReadPriority.{ReadPriority}
-pub use Rattle.events.specs.declared.ReadPriority.the-variants.{IsPriority, WrongPriority}
-pub use Rattle.events.specs.declared.ReadAddress.{ReadAddress}
-pub use Rattle.events.specs.declared.ReadAddress.the-variants.{IsAddress, WrongAddress}
-pub use Rattle.events.specs.declared.ReadKey.{ReadKey}
-pub use Rattle.events.specs.declared.ReadKey.the-variants.{IsKey, WrongKey}
-pub use Rattle.events.specs.declared.ReadConfirm.{ReadConfirm}
-pub use Rattle.events.specs.declared.ReadConfirm.the-variants.{IsConfirm, WrongConfirm}
-pub use Rattle.events.specs.declared.ReadResult.{ReadResult}
-pub use Rattle.events.specs.declared.ReadResult.the-variants.{IsResult, WrongResult}
-pub use Rattle.events.specs.declared.ReadLender.{ReadLender}
-pub use Rattle.events.specs.declared.ReadLender.the-variants.{IsLender, WrongLender}
-pub use Rattle.events.specs.declared.ReadSchedule.{ReadSchedule}
-pub use Rattle.events.specs.declared.ReadSchedule.the-variants.{IsSchedule, WrongSchedule}
+pub use Rattle.fields.specs.declared.Read8.{Read8}
+pub use Rattle.fields.specs.declared.Read8.the-variants.{Is8, Wrong8}
+pub use Rattle.fields.specs.declared.Read16.{Read16}
+pub use Rattle.fields.specs.declared.Read16.the-variants.{Is16, Wrong16}
+pub use Rattle.fields.specs.declared.Read64.{Read64}
+pub use Rattle.fields.specs.declared.Read64.the-variants.{Is64, Wrong64}
+pub use Rattle.fields.specs.declared.ReadPriority.{ReadPriority}
+pub use Rattle.fields.specs.declared.ReadPriority.the-variants.{IsPriority, WrongPriority}
+pub use Rattle.fields.specs.declared.ReadAddress.{ReadAddress}
+pub use Rattle.fields.specs.declared.ReadAddress.the-variants.{IsAddress, WrongAddress}
+pub use Rattle.fields.specs.declared.ReadKey.{ReadKey}
+pub use Rattle.fields.specs.declared.ReadKey.the-variants.{IsKey, WrongKey}
+pub use Rattle.fields.specs.declared.ReadConfirm.{ReadConfirm}
+pub use Rattle.fields.specs.declared.ReadConfirm.the-variants.{IsConfirm, WrongConfirm}
+pub use Rattle.fields.specs.declared.ReadResult.{ReadResult}
+pub use Rattle.fields.specs.declared.ReadResult.the-variants.{IsResult, WrongResult}
+pub use Rattle.fields.specs.declared.ReadLender.{ReadLender}
+pub use Rattle.fields.specs.declared.ReadLender.the-variants.{IsLender, WrongLender}
+pub use Rattle.fields.specs.declared.ReadSchedule.{ReadSchedule}
+pub use Rattle.fields.specs.declared.ReadSchedule.the-variants.{IsSchedule, WrongSchedule}
 pub use Rattle.events.specs.declared.ReadResolved.{ReadResolved}
 pub use Rattle.events.specs.declared.ReadResolved.the-variants.{IsResolved, WrongResolved}
 pub use Rattle.events.specs.declared.ReadUnicast.{ReadUnicast}

@@ -5,7 +5,7 @@ use crate::routes;
 use crate::signals;
 ghost use mathlib.Core.Path.{_≡_};
 ghost use lib.ListN.{length};
-ghost use Rattle.events.specs.Kinds.{bodyOf};
+ghost use Rattle.framing.specs.Kinds.{bodyOf};
 ghost use Rattle.events.specs.Events.{eventOf};
 
 pub fn decode(kind: u8, body: &[u8]) -> Event

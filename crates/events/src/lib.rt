@@ -1,4 +1,4 @@
-// The events of a trace: kinds and body lengths, the reader, numbers out of bytes, and an event out of a record's body.
+// The events of a trace: an event out of a record's body.
 use model::Lender;
 use model::NewBroadcast;
 use model::NewUnicast;
@@ -6,85 +6,18 @@ use model::NewUnrouted;
 use model::Resolved;
 use records::AckKey;
 use records::Address;
-use records::Confirm;
-use records::Opt8;
 use records::Opt16;
 use records::Opt64;
-use records::Priority;
 use records::QuorumKey;
-use records::Schedule;
 use records::Settings;
 use records::TxResult;
 
 pub mod arrivals;
 pub mod decode;
-pub mod kinds;
-pub mod numbers;
-pub mod parts;
-pub mod reader;
 pub mod routes;
 pub mod signals;
 
-// What stands at a place of a trace: a record, with its kind, where its body starts and where the next one does; a kind of no
-// event; a record that the trace's end cuts; or that end.
-pub enum Standing {
-    Record { kind: u8, start: usize, next: usize },
-    Unknown,
-    Cut,
-    End,
-}
-
-// ---- the parts of a body: what was read, or that it is outside its form
-
-pub enum Read8 {
-    Is8(Opt8),
-    Wrong8,
-}
-
-pub enum Read16 {
-    Is16(Opt16),
-    Wrong16,
-}
-
-pub enum Read64 {
-    Is64(Opt64),
-    Wrong64,
-}
-
-pub enum ReadPriority {
-    IsPriority(Priority),
-    WrongPriority,
-}
-
-pub enum ReadAddress {
-    IsAddress(Address),
-    WrongAddress,
-}
-
-pub enum ReadKey {
-    IsKey(AckKey),
-    WrongKey,
-}
-
-pub enum ReadConfirm {
-    IsConfirm(Confirm),
-    WrongConfirm,
-}
-
-pub enum ReadResult {
-    IsResult(TxResult),
-    WrongResult,
-}
-
-pub enum ReadLender {
-    IsLender(Lender),
-    WrongLender,
-}
-
-pub enum ReadSchedule {
-    IsSchedule(Schedule),
-    WrongSchedule,
-}
+// ---- what has parts of its own: what was read, or that it is outside its form
 
 pub enum ReadResolved {
     IsResolved(Resolved),

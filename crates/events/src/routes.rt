@@ -1,12 +1,12 @@
 // Kind 12, a route, and its sixteen results.
 use crate::Event;
-use crate::ReadAddress;
 use crate::ReadResolved;
-use crate::numbers::byte_at;
-use crate::numbers::u16_at;
-use crate::numbers::u64_at;
-use crate::parts::address_at;
-use crate::parts::blank_at;
+use fields::ReadAddress;
+use fields::numbers::byte_at;
+use fields::numbers::u16_at;
+use fields::numbers::u64_at;
+use fields::parts::address_at;
+use fields::parts::blank_at;
 use model::Resolved;
 use records::Address;
 ghost use mathlib.Core.Path.{_≡_};

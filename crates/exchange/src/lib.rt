@@ -10,7 +10,7 @@ ghost use mathlib.Core.Path.{_≡_};
 ghost use mathlib.Core.Bool.{true};
 ghost use mathlib.Core.List.{[]};
 ghost use lib.ListN.{length};
-ghost use Rattle.events.specs.Kinds.{bodyOf};
+ghost use Rattle.framing.specs.Kinds.{bodyOf};
 ghost use Rattle.events.specs.Events.{eventOf};
 ghost use Rattle.events.specs.Routes.{resultsIn};
 ghost use Rattle.exchange.specs.World.{worldOf, isCall, stepOn};

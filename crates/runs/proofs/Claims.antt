@@ -12,11 +12,11 @@ use lib.Dec.{ltb, leb, eqb}
 use borrow.Author.Tests.{leb-true, lt-leb, lt-ltb, le-ltb, ltb-false, ne-eqb}
 use Rattle.records.specs.Pick.{pick}
 use Rattle.records.proofs.Cases.{lt-or-le}
-use Rattle.events.specs.Kinds.{bodyOf}
-use Rattle.events.specs.Reader.{standsAt}
-use Rattle.events.specs.declared.Standing.{Standing}
-use Rattle.events.specs.declared.Standing.the-variants.{Record, Unknown, Cut, End}
-use Rattle.events.proofs.Reading.{Stood, stood, body-long}
+use Rattle.framing.specs.Kinds.{bodyOf}
+use Rattle.framing.specs.Reader.{standsAt}
+use Rattle.framing.specs.declared.Standing.{Standing}
+use Rattle.framing.specs.declared.Standing.the-variants.{Record, Unknown, Cut, End}
+use Rattle.framing.proofs.Reading.{Stood, stood, body-long}
 use Rattle.answers.specs.Items.{endBytes}
 use Rattle.exchange.specs.World.{World, freshWorld}
 use Rattle.exchange.specs.Answering.{overfull}

@@ -13,7 +13,7 @@ use Rattle.records.specs.declared.Verdict.the-variants.{Success}
 use Rattle.records.specs.declared.Action.the-variants.{Settled}
 use Rattle.model.specs.declared.Lender.the-variants.{FromBroadcasts}
 use Rattle.model.specs.Steps.Call.{EnqueueBroadcast, Dequeue, Transmitted}
-use Rattle.events.specs.Kinds.{bodyOf}
+use Rattle.framing.specs.Kinds.{bodyOf}
 use Rattle.events.specs.Events.{eventOf}
 use Rattle.events.specs.Arrivals.{broadcastOf}
 use Rattle.events.specs.Signals.{dequeueOf, reportOf, pollOf, hasAwaitingOf}

@@ -11,10 +11,10 @@ use lib.Dec.{ltb}
 use borrow.Author.Tests.{lt-ltb, le-ltb, ltb-false}
 use Rattle.records.specs.Pick.{pick}
 use Rattle.rows.proofs.Sets.{sets-append}
-use Rattle.events.specs.Reader.{standsAt}
-use Rattle.events.specs.declared.Standing.{Standing}
-use Rattle.events.specs.declared.Standing.the-variants.{Record, Unknown, Cut, End}
-use Rattle.events.proofs.Reading.{stood}
+use Rattle.framing.specs.Reader.{standsAt}
+use Rattle.framing.specs.declared.Standing.{Standing}
+use Rattle.framing.specs.declared.Standing.the-variants.{Record, Unknown, Cut, End}
+use Rattle.framing.proofs.Reading.{stood}
 use Rattle.answers.specs.Bytes.{Written}
 use Rattle.answers.specs.Items.{itemsBytes, endBytes}
 use Rattle.exchange.specs.World.{World, Step, freshWorld}

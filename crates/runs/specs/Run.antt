@@ -5,11 +5,11 @@ use mathlib.Core.List.{List, [], _∷_, _++_}
 use lib.ListN.{length, take, drop}
 use lib.Dec.{ltb}
 use Rattle.records.specs.Pick.{pick}
-use Rattle.events.specs.Reader.{standsAt}
+use Rattle.framing.specs.Reader.{standsAt}
 use Rattle.events.specs.Events.{eventOf}
 use Rattle.events.specs.Routes.{resultsIn}
-use Rattle.events.specs.declared.Standing.{Standing}
-use Rattle.events.specs.declared.Standing.the-variants.{Record, Unknown, Cut, End}
+use Rattle.framing.specs.declared.Standing.{Standing}
+use Rattle.framing.specs.declared.Standing.the-variants.{Record, Unknown, Cut, End}
 use Rattle.answers.specs.Items.{itemsBytes, endBytes}
 use Rattle.exchange.specs.World.{World, Step, freshWorld, stepOn}
 use Rattle.exchange.specs.Answering.{overfull}

@@ -1,7 +1,7 @@
 -- Four traces and how many whole records each begins with. Assumes nothing.
 use mathlib.Core.Path.{_≡_, refl}
 use mathlib.Core.List.{[], _∷_}
-use Rattle.events.specs.Kinds.{bodyOf}
+use Rattle.framing.specs.Kinds.{bodyOf}
 use Rattle.trace.specs.Reading.{recordsIn}
 
 -- next wake, then retry for hop 113, up to the end

@@ -9,11 +9,11 @@ use lib.ListN.{length}
 use borrow.Author.Tests.{le-leb}
 use types.Run.{OneOf}
 use denote.Enum.Declared.{tagOf}
-use Rattle.events.specs.Reader.{standsAt}
-use Rattle.events.specs.declared.Standing.{Standing}
-use Rattle.events.specs.declared.Standing.the-variants.{Record, Unknown, Cut, End}
-use Rattle.events.proofs.Reading.{stood}
-use Rattle.events.proofs.Standing as standing
+use Rattle.framing.specs.Reader.{standsAt}
+use Rattle.framing.specs.declared.Standing.{Standing}
+use Rattle.framing.specs.declared.Standing.the-variants.{Record, Unknown, Cut, End}
+use Rattle.framing.proofs.Reading.{stood}
+use Rattle.framing.proofs.Standing as standing
 use Rattle.trace.specs.Reading.{countOf, recordsFrom, recordsIn}
 
 -- at place at, with n counted: each record took a byte at least, so that as many are still allowed as there are bytes

@@ -2,9 +2,9 @@
 use Prim.Native.Nat.{ℕ, zero, suc, _+_}
 use mathlib.Core.List.{List}
 use lib.ListN.{length}
-use Rattle.events.specs.Reader.{standsAt}
-use Rattle.events.specs.declared.Standing.{Standing}
-use Rattle.events.specs.declared.Standing.the-variants.{Record, Unknown, Cut, End}
+use Rattle.framing.specs.Reader.{standsAt}
+use Rattle.framing.specs.declared.Standing.{Standing}
+use Rattle.framing.specs.declared.Standing.the-variants.{Record, Unknown, Cut, End}
 
 -- one for a record, and those that stand from the next on; none past what is no whole record
 abbrev pub countOf : (ℕ → ℕ) → Standing → ℕ

@@ -1,11 +1,11 @@
 // A reader holds a lent trace and a place in it. The prover walks no struct that holds a reference, so each function over one is
-// proved by hand and only passes on what events::reader does. `standing_at` and `body_at` make a reader of plain parameters and ask
+// proved by hand and only passes on what framing::reader does. `standing_at` and `body_at` make a reader of plain parameters and ask
 // it, by hand too; who calls them, as `count_records` does, needs no walk.
-use events::Standing;
+use framing::Standing;
 ghost use mathlib.Core.Path.{_≡_};
 ghost use Prim.Native.Nat.{_-_, _≤_};
 ghost use lib.ListN.{length, take, drop};
-ghost use Rattle.events.specs.Reader.{standsAt};
+ghost use Rattle.framing.specs.Reader.{standsAt};
 ghost use Rattle.trace.specs.Reading.{recordsIn};
 
 pub struct Reader<'a> {
@@ -24,7 +24,7 @@ pub fn opened<'a>(trace: &'a [u8]) -> Reader<'a>
 pub fn stands<'a>(r: Reader<'a>) -> Standing
     ensures { λ s. ⌜ s ≡ standsAt (now (r .entry .trace)) (r .entry .at) ⌝ }
 {
-    events::reader::stands_at(r.trace, r.at)
+    framing::reader::stands_at(r.trace, r.at)
 }
 
 // A record's body: that very stretch of the trace, which outlives the reader.
@@ -32,7 +32,7 @@ pub fn body<'a>(r: Reader<'a>, start: usize, next: usize) -> &'a [u8]
     requires { ⌜ (start ≤ next) × (next ≤ length (now (r .trace))) ⌝ }
     ensures { λ b. ⌜ now b ≡ take (next - start) (drop start (now (r .entry .trace))) ⌝ }
 {
-    events::reader::record_at(r.trace, start, next)
+    framing::reader::record_at(r.trace, start, next)
 }
 
 // The same trace, read from another place on.

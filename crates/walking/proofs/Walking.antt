@@ -14,8 +14,8 @@ use Rattle.tables.specs.Layouts.{unicastTable, unroutedTable, destinationTable,
 use Rattle.model.specs.declared.Counts.{Counts}
 use Rattle.model.specs.Model.{freshOf, countsOf}
 use Rattle.model.proofs.Sounds.{fresh-sound}
-use Rattle.events.specs.Reader.{standsAt}
-use Rattle.events.specs.declared.Standing.the-variants.{Record}
+use Rattle.framing.specs.Reader.{standsAt}
+use Rattle.framing.specs.declared.Standing.the-variants.{Record}
 use Rattle.answers.specs.Bytes.{Written}
 use Rattle.answers.specs.Items.{itemsBytes, endBytes}
 use Rattle.answers.specs.declared.Item.{Item}

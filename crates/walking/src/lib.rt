@@ -1,6 +1,6 @@
 // The walk over a trace's records: one after the other, on fresh tables, their answers into a lent output, and last the end.
 use answers::Item;
-use events::Standing;
+use framing::Standing;
 use model::Counts;
 ghost use mathlib.Core.Path.{_≡_};
 ghost use Prim.Native.Nat.{_+_, _≤_};
@@ -52,12 +52,12 @@ pub fn walk(trace: &[u8], out: &mut [u8]) -> usize
     let mut at: usize = 0;
     let mut o: usize = 0;
     loop {
-        match events::reader::stands_at(trace, at) {
+        match framing::reader::stands_at(trace, at) {
             Standing::End => return end(out, o, 0, at),
             Standing::Unknown => return end(out, o, 12, at),
             Standing::Cut => return end(out, o, 13, at),
             Standing::Record { kind, start, next } => {
-                let body = events::reader::record_at(trace, start, next);
+                let body = framing::reader::record_at(trace, start, next);
                 let t = exchange::turn(
                     c,
                     &mut w,

@@ -4,11 +4,11 @@ use native.Mathlib.Omega.{arith}
 use mathlib.Core.Path.{_≡_, refl, sym, ap, _∙_}
 use mathlib.Core.List.{List}
 use lib.ListN.{length}
-use Rattle.events.specs.Reader.{standsAt}
+use Rattle.framing.specs.Reader.{standsAt}
 use Rattle.events.specs.Events.{eventOf}
 use Rattle.events.specs.Routes.{resultsIn}
-use Rattle.events.specs.declared.Standing.the-variants.{Record}
-use Rattle.events.proofs.Reading.{Stood, stood, body-long}
+use Rattle.framing.specs.declared.Standing.the-variants.{Record}
+use Rattle.framing.proofs.Reading.{Stood, stood, body-long}
 use Rattle.exchange.specs.World.{World, stepOn, worldOf}
 use Rattle.exchange.proofs.Somes.{items-some}
 use Rattle.runs.specs.Run.{stepBy, bodyIn}
@@ -19,8 +19,8 @@ use Rattle.walking.proofs.walk.Statement.{statement}
 use Rattle.walking.proofs.walk.Tie as tie
 use Rattle.walking.proofs.walk.Reads as reads
 use Rattle.walking.proofs.walk.Lts as lts
-use Rattle.events.proofs.reader.record_at.Reads as record-at-reads
-use Rattle.events.proofs.reader.stands_at.Reads as stands-at-reads
+use Rattle.framing.proofs.reader.record_at.Reads as record-at-reads
+use Rattle.framing.proofs.reader.stands_at.Reads as stands-at-reads
 use Rattle.records.proofs.numbers.default_settings.Reads as default-settings-reads
 use Rattle.tables.proofs.broadcast_rows.fresh.Reads as broadcast-rows-fresh-reads
 use Rattle.tables.proofs.destination_rows.fresh.Reads as destination-rows-fresh-reads

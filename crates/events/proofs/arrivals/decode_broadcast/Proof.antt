@@ -1,5 +1,5 @@
 use mathlib.Core.Path.{ap, _∙_}
-use Rattle.events.specs.Parts.{priorityBy}
+use Rattle.fields.specs.Parts.{priorityBy}
 use Rattle.events.specs.Arrivals.{broadcastWith, broadcastOf}
 use borrow.Author.Needs.{needs}
 use Rattle.events.proofs.arrivals.decode_broadcast.Statement.{statement}
@@ -7,11 +7,11 @@ use Rattle.events.proofs.arrivals.decode_broadcast.Tie as tie
 use Rattle.events.proofs.arrivals.decode_broadcast.Reads as reads
 use Rattle.events.proofs.arrivals.decode_broadcast.Lts as lts
 use Rattle.events.proofs.arrivals.broadcast_with.Reads as broadcast-with-reads
-use Rattle.events.proofs.numbers.byte_at.Reads as byte-at-reads
-use Rattle.events.proofs.numbers.u32_at.Reads as u32-at-reads
-use Rattle.events.proofs.numbers.u64_at.Reads as u64-at-reads
-use Rattle.events.proofs.parts.priority_by.Reads as priority-by-reads
-use Rattle.events.proofs.parts.schedule_at.Reads as schedule-at-reads
+use Rattle.fields.proofs.numbers.byte_at.Reads as byte-at-reads
+use Rattle.fields.proofs.numbers.u32_at.Reads as u32-at-reads
+use Rattle.fields.proofs.numbers.u64_at.Reads as u64-at-reads
+use Rattle.fields.proofs.parts.priority_by.Reads as priority-by-reads
+use Rattle.fields.proofs.parts.schedule_at.Reads as schedule-at-reads
 
 u64-at-requires : tie.Need-u64-at-requires
 u64-at-requires c κs = search needs

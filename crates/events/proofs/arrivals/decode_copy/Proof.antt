@@ -6,8 +6,8 @@ use Rattle.events.proofs.arrivals.decode_copy.Tie as tie
 use Rattle.events.proofs.arrivals.decode_copy.Reads as reads
 use Rattle.events.proofs.arrivals.decode_copy.Lts as lts
 use Rattle.events.proofs.arrivals.unicast_at.Reads as unicast-at-reads
-use Rattle.events.proofs.numbers.u32_at.Reads as u32-at-reads
-use Rattle.events.proofs.numbers.u64_at.Reads as u64-at-reads
+use Rattle.fields.proofs.numbers.u32_at.Reads as u32-at-reads
+use Rattle.fields.proofs.numbers.u64_at.Reads as u64-at-reads
 
 u32-at-requires : tie.Need-u32-at-requires
 u32-at-requires c κs = search needs

@@ -6,7 +6,7 @@ use Rattle.events.proofs.arrivals.decode_unicast.Tie as tie
 use Rattle.events.proofs.arrivals.decode_unicast.Reads as reads
 use Rattle.events.proofs.arrivals.decode_unicast.Lts as lts
 use Rattle.events.proofs.arrivals.unicast_at.Reads as unicast-at-reads
-use Rattle.events.proofs.numbers.u64_at.Reads as u64-at-reads
+use Rattle.fields.proofs.numbers.u64_at.Reads as u64-at-reads
 
 u64-at-requires : tie.Need-u64-at-requires
 u64-at-requires c κs = search needs

@@ -1,5 +1,5 @@
 use mathlib.Core.Path.{ap, _∙_}
-use Rattle.events.specs.Parts.{priorityBy}
+use Rattle.fields.specs.Parts.{priorityBy}
 use Rattle.events.specs.Arrivals.{unroutedWith, unroutedOf}
 use borrow.Author.Needs.{needs}
 use Rattle.events.proofs.arrivals.decode_unrouted.Statement.{statement}
@@ -7,12 +7,12 @@ use Rattle.events.proofs.arrivals.decode_unrouted.Tie as tie
 use Rattle.events.proofs.arrivals.decode_unrouted.Reads as reads
 use Rattle.events.proofs.arrivals.decode_unrouted.Lts as lts
 use Rattle.events.proofs.arrivals.unrouted_with.Reads as unrouted-with-reads
-use Rattle.events.proofs.numbers.byte_at.Reads as byte-at-reads
-use Rattle.events.proofs.numbers.u16_at.Reads as u16-at-reads
-use Rattle.events.proofs.numbers.u32_at.Reads as u32-at-reads
-use Rattle.events.proofs.numbers.u64_at.Reads as u64-at-reads
-use Rattle.events.proofs.parts.confirm_at.Reads as confirm-at-reads
-use Rattle.events.proofs.parts.priority_by.Reads as priority-by-reads
+use Rattle.fields.proofs.numbers.byte_at.Reads as byte-at-reads
+use Rattle.fields.proofs.numbers.u16_at.Reads as u16-at-reads
+use Rattle.fields.proofs.numbers.u32_at.Reads as u32-at-reads
+use Rattle.fields.proofs.numbers.u64_at.Reads as u64-at-reads
+use Rattle.fields.proofs.parts.confirm_at.Reads as confirm-at-reads
+use Rattle.fields.proofs.parts.priority_by.Reads as priority-by-reads
 
 u64-at-requires : tie.Need-u64-at-requires
 u64-at-requires c κs = search needs

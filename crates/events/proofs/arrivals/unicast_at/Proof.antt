@@ -1,5 +1,5 @@
 use mathlib.Core.Path.{ap, _∙_}
-use Rattle.events.specs.Parts.{priorityBy}
+use Rattle.fields.specs.Parts.{priorityBy}
 use Rattle.events.specs.Arrivals.{unicastWith}
 use borrow.Author.Needs.{needs}
 use Rattle.events.proofs.arrivals.unicast_at.Statement.{statement}
@@ -7,12 +7,12 @@ use Rattle.events.proofs.arrivals.unicast_at.Tie as tie
 use Rattle.events.proofs.arrivals.unicast_at.Reads as reads
 use Rattle.events.proofs.arrivals.unicast_at.Lts as lts
 use Rattle.events.proofs.arrivals.unicast_with.Reads as unicast-with-reads
-use Rattle.events.proofs.numbers.byte_at.Reads as byte-at-reads
-use Rattle.events.proofs.numbers.u16_at.Reads as u16-at-reads
-use Rattle.events.proofs.numbers.u32_at.Reads as u32-at-reads
-use Rattle.events.proofs.parts.address_at.Reads as address-at-reads
-use Rattle.events.proofs.parts.confirm_at.Reads as confirm-at-reads
-use Rattle.events.proofs.parts.priority_by.Reads as priority-by-reads
+use Rattle.fields.proofs.numbers.byte_at.Reads as byte-at-reads
+use Rattle.fields.proofs.numbers.u16_at.Reads as u16-at-reads
+use Rattle.fields.proofs.numbers.u32_at.Reads as u32-at-reads
+use Rattle.fields.proofs.parts.address_at.Reads as address-at-reads
+use Rattle.fields.proofs.parts.confirm_at.Reads as confirm-at-reads
+use Rattle.fields.proofs.parts.priority_by.Reads as priority-by-reads
 
 add-u32-at : tie.Need-add-u32-at
 add-u32-at c = search needs

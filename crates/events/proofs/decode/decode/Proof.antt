@@ -1,8 +1,8 @@
 use mathlib.Core.Path.{refl}
 use borrow.Author.Tests.{ne-eqb}
-use Rattle.events.specs.Kinds.{bodyOf}
+use Rattle.framing.specs.Kinds.{bodyOf}
 use Rattle.events.specs.Events.{eventOf}
-use Rattle.events.proofs.Bodies.{enough}
+use Rattle.framing.proofs.Bodies.{enough}
 use Rattle.events.proofs.decode.decode.Statement.{statement}
 use Rattle.events.proofs.decode.decode.Tie as tie
 use Rattle.events.proofs.decode.decode.Reads as reads

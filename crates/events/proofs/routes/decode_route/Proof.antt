@@ -6,9 +6,9 @@ use Rattle.events.proofs.routes.decode_route.Statement.{statement}
 use Rattle.events.proofs.routes.decode_route.Tie as tie
 use Rattle.events.proofs.routes.decode_route.Reads as reads
 use Rattle.events.proofs.routes.decode_route.Lts as lts
-use Rattle.events.proofs.numbers.byte_at.Reads as byte-at-reads
-use Rattle.events.proofs.numbers.u16_at.Reads as u16-at-reads
-use Rattle.events.proofs.numbers.u64_at.Reads as u64-at-reads
+use Rattle.fields.proofs.numbers.byte_at.Reads as byte-at-reads
+use Rattle.fields.proofs.numbers.u16_at.Reads as u16-at-reads
+use Rattle.fields.proofs.numbers.u64_at.Reads as u64-at-reads
 use Rattle.events.proofs.routes.entries_right.Reads as entries-right-reads
 
 u64-at-requires : tie.Need-u64-at-requires

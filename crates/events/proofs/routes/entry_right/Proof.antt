@@ -6,7 +6,7 @@ use Rattle.events.proofs.routes.entry_right.Statement.{statement}
 use Rattle.events.proofs.routes.entry_right.Tie as tie
 use Rattle.events.proofs.routes.entry_right.Reads as reads
 use Rattle.events.proofs.routes.entry_right.Lts as lts
-use Rattle.events.proofs.parts.blank_at.Reads as blank-at-reads
+use Rattle.fields.proofs.parts.blank_at.Reads as blank-at-reads
 use Rattle.events.proofs.routes.in_form.Reads as in-form-reads
 use Rattle.events.proofs.routes.resolved_at.Reads as resolved-at-reads
 

@@ -5,9 +5,9 @@ use Rattle.events.proofs.routes.resolved_at.Statement.{statement}
 use Rattle.events.proofs.routes.resolved_at.Tie as tie
 use Rattle.events.proofs.routes.resolved_at.Reads as reads
 use Rattle.events.proofs.routes.resolved_at.Lts as lts
-use Rattle.events.proofs.numbers.byte_at.Reads as byte-at-reads
-use Rattle.events.proofs.numbers.u16_at.Reads as u16-at-reads
-use Rattle.events.proofs.parts.address_at.Reads as address-at-reads
+use Rattle.fields.proofs.numbers.byte_at.Reads as byte-at-reads
+use Rattle.fields.proofs.numbers.u16_at.Reads as u16-at-reads
+use Rattle.fields.proofs.parts.address_at.Reads as address-at-reads
 use Rattle.events.proofs.routes.resolved_with.Reads as resolved-with-reads
 
 byte-at-requires : tie.Need-byte-at-requires

@@ -4,7 +4,7 @@ use Rattle.events.proofs.signals.decode_ack.Statement.{statement}
 use Rattle.events.proofs.signals.decode_ack.Tie as tie
 use Rattle.events.proofs.signals.decode_ack.Reads as reads
 use Rattle.events.proofs.signals.decode_ack.Lts as lts
-use Rattle.events.proofs.parts.key_at.Reads as key-at-reads
+use Rattle.fields.proofs.parts.key_at.Reads as key-at-reads
 
 key-at-requires : tie.Need-key-at-requires
 key-at-requires c κs = search needs

@@ -6,7 +6,7 @@ use Rattle.events.proofs.signals.decode_cancel.Statement.{statement}
 use Rattle.events.proofs.signals.decode_cancel.Tie as tie
 use Rattle.events.proofs.signals.decode_cancel.Reads as reads
 use Rattle.events.proofs.signals.decode_cancel.Lts as lts
-use Rattle.events.proofs.numbers.u32_at.Reads as u32-at-reads
+use Rattle.fields.proofs.numbers.u32_at.Reads as u32-at-reads
 
 u32-at-requires : tie.Need-u32-at-requires
 u32-at-requires c κs = search needs

@@ -5,8 +5,8 @@ use Rattle.events.proofs.signals.decode_delivered.Statement.{statement}
 use Rattle.events.proofs.signals.decode_delivered.Tie as tie
 use Rattle.events.proofs.signals.decode_delivered.Reads as reads
 use Rattle.events.proofs.signals.decode_delivered.Lts as lts
-use Rattle.events.proofs.numbers.byte_at.Reads as byte-at-reads
-use Rattle.events.proofs.numbers.u16_at.Reads as u16-at-reads
+use Rattle.fields.proofs.numbers.byte_at.Reads as byte-at-reads
+use Rattle.fields.proofs.numbers.u16_at.Reads as u16-at-reads
 
 u16-at-requires : tie.Need-u16-at-requires
 u16-at-requires c κs = search needs

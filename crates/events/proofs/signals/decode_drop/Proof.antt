@@ -1,5 +1,5 @@
 use mathlib.Core.Path.{ap, ap₂, _∙_}
-use Rattle.events.specs.Parts.{opt64By}
+use Rattle.fields.specs.Parts.{opt64By}
 use Rattle.events.specs.Signals.{dropOf}
 use Rattle.events.specs.Types.{OnDrop}
 use borrow.Author.Needs.{needs}
@@ -7,10 +7,10 @@ use Rattle.events.proofs.signals.decode_drop.Statement.{statement}
 use Rattle.events.proofs.signals.decode_drop.Tie as tie
 use Rattle.events.proofs.signals.decode_drop.Reads as reads
 use Rattle.events.proofs.signals.decode_drop.Lts as lts
-use Rattle.events.proofs.numbers.byte_at.Reads as byte-at-reads
-use Rattle.events.proofs.numbers.u16_at.Reads as u16-at-reads
-use Rattle.events.proofs.numbers.u64_at.Reads as u64-at-reads
-use Rattle.events.proofs.parts.opt64_by.Reads as opt64-by-reads
+use Rattle.fields.proofs.numbers.byte_at.Reads as byte-at-reads
+use Rattle.fields.proofs.numbers.u16_at.Reads as u16-at-reads
+use Rattle.fields.proofs.numbers.u64_at.Reads as u64-at-reads
+use Rattle.fields.proofs.parts.opt64_by.Reads as opt64-by-reads
 
 u16-at-requires : tie.Need-u16-at-requires
 u16-at-requires c κs = search needs

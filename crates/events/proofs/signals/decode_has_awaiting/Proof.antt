@@ -5,7 +5,7 @@ use Rattle.events.proofs.signals.decode_has_awaiting.Statement.{stateme
 use Rattle.events.proofs.signals.decode_has_awaiting.Tie as tie
 use Rattle.events.proofs.signals.decode_has_awaiting.Reads as reads
 use Rattle.events.proofs.signals.decode_has_awaiting.Lts as lts
-use Rattle.events.proofs.parts.address_at.Reads as address-at-reads
+use Rattle.fields.proofs.parts.address_at.Reads as address-at-reads
 use Rattle.events.proofs.signals.awaiting_by.Reads as awaiting-by-reads
 
 address-at-requires : tie.Need-address-at-requires

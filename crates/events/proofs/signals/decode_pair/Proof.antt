@@ -6,8 +6,8 @@ use Rattle.events.proofs.signals.decode_pair.Statement.{statement}
 use Rattle.events.proofs.signals.decode_pair.Tie as tie
 use Rattle.events.proofs.signals.decode_pair.Reads as reads
 use Rattle.events.proofs.signals.decode_pair.Lts as lts
-use Rattle.events.proofs.numbers.u16_at.Reads as u16-at-reads
-use Rattle.events.proofs.numbers.u64_at.Reads as u64-at-reads
+use Rattle.fields.proofs.numbers.u16_at.Reads as u16-at-reads
+use Rattle.fields.proofs.numbers.u64_at.Reads as u64-at-reads
 
 u64-at-requires : tie.Need-u64-at-requires
 u64-at-requires c κs = search needs

@@ -1,16 +1,16 @@
 use mathlib.Core.Path.{ap₂, _∙_}
-use Rattle.events.specs.Parts.{opt16By, opt64By}
+use Rattle.fields.specs.Parts.{opt16By, opt64By}
 use Rattle.events.specs.Signals.{pollWith, pollOf}
 use borrow.Author.Needs.{needs}
 use Rattle.events.proofs.signals.decode_poll.Statement.{statement}
 use Rattle.events.proofs.signals.decode_poll.Tie as tie
 use Rattle.events.proofs.signals.decode_poll.Reads as reads
 use Rattle.events.proofs.signals.decode_poll.Lts as lts
-use Rattle.events.proofs.numbers.byte_at.Reads as byte-at-reads
-use Rattle.events.proofs.numbers.u16_at.Reads as u16-at-reads
-use Rattle.events.proofs.numbers.u64_at.Reads as u64-at-reads
-use Rattle.events.proofs.parts.opt16_by.Reads as opt16-by-reads
-use Rattle.events.proofs.parts.opt64_by.Reads as opt64-by-reads
+use Rattle.fields.proofs.numbers.byte_at.Reads as byte-at-reads
+use Rattle.fields.proofs.numbers.u16_at.Reads as u16-at-reads
+use Rattle.fields.proofs.numbers.u64_at.Reads as u64-at-reads
+use Rattle.fields.proofs.parts.opt16_by.Reads as opt16-by-reads
+use Rattle.fields.proofs.parts.opt64_by.Reads as opt64-by-reads
 use Rattle.events.proofs.signals.poll_with.Reads as poll-with-reads
 
 u64-at-requires : tie.Need-u64-at-requires

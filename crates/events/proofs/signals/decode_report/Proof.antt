@@ -1,17 +1,17 @@
 use mathlib.Core.Path.{ap, ap₂, _∙_}
-use Rattle.events.specs.Parts.{lenderBy, resultBy}
+use Rattle.fields.specs.Parts.{lenderBy, resultBy}
 use Rattle.events.specs.Signals.{reportWith, reportOf}
 use borrow.Author.Needs.{needs}
 use Rattle.events.proofs.signals.decode_report.Statement.{statement}
 use Rattle.events.proofs.signals.decode_report.Tie as tie
 use Rattle.events.proofs.signals.decode_report.Reads as reads
 use Rattle.events.proofs.signals.decode_report.Lts as lts
-use Rattle.events.proofs.numbers.byte_at.Reads as byte-at-reads
-use Rattle.events.proofs.numbers.u16_at.Reads as u16-at-reads
-use Rattle.events.proofs.numbers.u32_at.Reads as u32-at-reads
-use Rattle.events.proofs.numbers.u64_at.Reads as u64-at-reads
-use Rattle.events.proofs.parts.lender_by.Reads as lender-by-reads
-use Rattle.events.proofs.parts.result_by.Reads as result-by-reads
+use Rattle.fields.proofs.numbers.byte_at.Reads as byte-at-reads
+use Rattle.fields.proofs.numbers.u16_at.Reads as u16-at-reads
+use Rattle.fields.proofs.numbers.u32_at.Reads as u32-at-reads
+use Rattle.fields.proofs.numbers.u64_at.Reads as u64-at-reads
+use Rattle.fields.proofs.parts.lender_by.Reads as lender-by-reads
+use Rattle.fields.proofs.parts.result_by.Reads as result-by-reads
 use Rattle.events.proofs.signals.report_with.Reads as report-with-reads
 
 byte-at-requires : tie.Need-byte-at-requires

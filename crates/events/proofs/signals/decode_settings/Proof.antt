@@ -5,8 +5,8 @@ use Rattle.events.proofs.signals.decode_settings.Statement.{statement}
 use Rattle.events.proofs.signals.decode_settings.Tie as tie
 use Rattle.events.proofs.signals.decode_settings.Reads as reads
 use Rattle.events.proofs.signals.decode_settings.Lts as lts
-use Rattle.events.proofs.numbers.byte_at.Reads as byte-at-reads
-use Rattle.events.proofs.numbers.u32_at.Reads as u32-at-reads
+use Rattle.fields.proofs.numbers.byte_at.Reads as byte-at-reads
+use Rattle.fields.proofs.numbers.u32_at.Reads as u32-at-reads
 
 u32-at-requires : tie.Need-u32-at-requires
 u32-at-requires c κs = search needs

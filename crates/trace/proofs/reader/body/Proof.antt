@@ -45,10 +45,10 @@ use denote.Triple.Clauses.{ensured, lasts}
 use Rattle.trace.specs.declared.reader.Reader.{Reader}
 use Rattle.trace.proofs.reader.Reader as T
 use Rattle.trace.proofs.reader.Reader.Laws as T′
-use Rattle.events.proofs.reader.record_at as record-at
-use Rattle.events.proofs.reader.record_at.Symbol as record-at-def
-use Rattle.events.proofs.reader.record_at.Symbol.{name as #record-at}
-use Rattle.events.proofs.reader.record_at.Met as record-at-thm
+use Rattle.framing.proofs.reader.record_at as record-at
+use Rattle.framing.proofs.reader.record_at.Symbol as record-at-def
+use Rattle.framing.proofs.reader.record_at.Symbol.{name as #record-at}
+use Rattle.framing.proofs.reader.record_at.Met as record-at-thm
 use Rattle.trace.proofs.reader.body.Key.{name as #body}
 use Rattle.trace.proofs.reader.body as body
 use Rattle.trace.proofs.reader.body.Statement as stated
@@ -165,4 +165,4 @@ body-spec 𝓤 H 𝓜 𝓖 𝓡 =
     entered 𝓤 H (tripleOf 𝓤 H (𝓖 .A) body.signature (body.spec 𝓤 H (𝓖 .A) (𝓜 .mem) (𝓡 .run)))
     (tables 𝓤 H 𝓜 𝓡 code.env .C) (tables 𝓤 H 𝓜 𝓡 code.env .Λ) #body code.function (code.unfolded 𝓤 H 𝓜 𝓡)
     (body-meets 𝓤 H (𝓖 .A) (givenOf 𝓤 H 𝓜 𝓖) (𝓜 .mem) (𝓡 .run) (tablesOf 𝓤 H 𝓜 (tables 𝓤 H 𝓜 𝓡 code.env))
-    (cited 𝓤 H (RecordAt 𝓤 H (𝓖 .A) (𝓜 .mem) (𝓡 .run)) 𝓜 𝓡 code.env #record-at record-at-def.routine code.calls-events·reader·record-at (record-at-thm.met 𝓤 H 𝓜 𝓖 𝓡)))
+    (cited 𝓤 H (RecordAt 𝓤 H (𝓖 .A) (𝓜 .mem) (𝓡 .run)) 𝓜 𝓡 code.env #record-at record-at-def.routine code.calls-framing·reader·record-at (record-at-thm.met 𝓤 H 𝓜 𝓖 𝓡)))

@@ -4,9 +4,9 @@ use lib.ListN.{length}
 use mathlib.Core.Path.{_≡_, sym, _∙_}
 use mathlib.Core.List.{List}
 use native.Mathlib.Omega.{arith}
-use Rattle.events.specs.Reader.{standsAt}
-use Rattle.events.specs.declared.Standing.the-variants.{Record}
-use Rattle.events.proofs.Reading.{stood}
+use Rattle.framing.specs.Reader.{standsAt}
+use Rattle.framing.specs.declared.Standing.the-variants.{Record}
+use Rattle.framing.proofs.Reading.{stood}
 use Rattle.trace.proofs.Counting.{Counting, start, go-on, stop}
 use borrow.Author.Needs.{needs}
 use Rattle.trace.proofs.reader.count_records.Statement.{statement}

@@ -38,11 +38,11 @@ use denote.Triple.Table.{entered, cited}
 use denote.Triple.Walked.{says, Stays, stay-none, stay-none-slice, walkOf, goes-none, goes-none-slice, Walks, ends-at, walked, walk-meets}
 use denote.Exit.{yes}
 use denote.Triple.Clauses.{ensured, lasts}
-use Rattle.events.specs.Reader.{standsAt}
-use Rattle.events.specs.declared.Standing.{Standing}
+use Rattle.framing.specs.Reader.{standsAt}
+use Rattle.framing.specs.declared.Standing.{Standing}
 use Rattle.trace.specs.declared.reader.Reader.{Reader}
-use Rattle.events.proofs.Standing as S
-use Rattle.events.proofs.Standing.Laws as S′
+use Rattle.framing.proofs.Standing as S
+use Rattle.framing.proofs.Standing.Laws as S′
 use Rattle.trace.proofs.reader.Reader as T
 use Rattle.trace.proofs.reader.Reader.Laws as T′
 use Rattle.trace.proofs.reader.opened as opened

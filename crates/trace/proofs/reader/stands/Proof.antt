@@ -43,17 +43,17 @@ use denote.Triple.Table.{entered, cited}
 use denote.Triple.Walked.{says, Stays, stay-none, walkOf, goes-none, Walks, ends-at, walked, walk-meets}
 use denote.Exit.{yes}
 use denote.Triple.Clauses.{ensured, lasts}
-use Rattle.events.specs.Reader.{standsAt}
+use Rattle.framing.specs.Reader.{standsAt}
 use Rattle.trace.specs.declared.reader.Reader.{Reader}
-use Rattle.events.specs.declared.Standing.{Standing}
+use Rattle.framing.specs.declared.Standing.{Standing}
 use Rattle.trace.proofs.reader.Reader as T
 use Rattle.trace.proofs.reader.Reader.Laws as T′
-use Rattle.events.proofs.Standing as S
-use Rattle.events.proofs.Standing.Laws as S′
-use Rattle.events.proofs.reader.stands_at as stands-at
-use Rattle.events.proofs.reader.stands_at.Symbol as stands-at-def
-use Rattle.events.proofs.reader.stands_at.Symbol.{name as #stands-at}
-use Rattle.events.proofs.reader.stands_at.Met as stands-at-thm
+use Rattle.framing.proofs.Standing as S
+use Rattle.framing.proofs.Standing.Laws as S′
+use Rattle.framing.proofs.reader.stands_at as stands-at
+use Rattle.framing.proofs.reader.stands_at.Symbol as stands-at-def
+use Rattle.framing.proofs.reader.stands_at.Symbol.{name as #stands-at}
+use Rattle.framing.proofs.reader.stands_at.Met as stands-at-thm
 use Rattle.trace.proofs.reader.stands.Key.{name as #stands}
 use Rattle.trace.proofs.reader.stands as stands
 use Rattle.trace.proofs.reader.stands.Statement as stated
@@ -163,4 +163,4 @@ stands-spec 𝓤 H 𝓜 𝓖 𝓡 =
     entered 𝓤 H (tripleOf 𝓤 H (𝓖 .A) stands.signature (stands.spec 𝓤 H (𝓖 .A) (𝓜 .mem) (𝓡 .run)))
     (tables 𝓤 H 𝓜 𝓡 code.env .C) (tables 𝓤 H 𝓜 𝓡 code.env .Λ) #stands code.function (code.unfolded 𝓤 H 𝓜 𝓡)
     (stands-meets 𝓤 H (𝓖 .A) (givenOf 𝓤 H 𝓜 𝓖) (𝓜 .mem) (𝓡 .run) (tablesOf 𝓤 H 𝓜 (tables 𝓤 H 𝓜 𝓡 code.env))
-    (cited 𝓤 H (StandsAt 𝓤 H (𝓖 .A) (𝓜 .mem) (𝓡 .run)) 𝓜 𝓡 code.env #stands-at stands-at-def.routine code.calls-events·reader·stands-at (stands-at-thm.met 𝓤 H 𝓜 𝓖 𝓡)))
+    (cited 𝓤 H (StandsAt 𝓤 H (𝓖 .A) (𝓜 .mem) (𝓡 .run)) 𝓜 𝓡 code.env #stands-at stands-at-def.routine code.calls-framing·reader·stands-at (stands-at-thm.met 𝓤 H 𝓜 𝓖 𝓡)))

@@ -1,0 +1,3 @@
+-- The laws of numbers out of bytes.
+pub mod Widths
+pub mod Zeros

@@ -1,0 +1,49 @@
+use Rattle.fields.proofs.Widths.{le-more}
+use mathlib.Core.Path.{ap₂, sym, _∙_}
+use Prim.Native.Nat.{ℕ, _+_, _*_}
+use native.Mathlib.Omega.{arith}
+use borrow.Author.Needs.{needs}
+use Rattle.fields.proofs.numbers.u64_at.Statement.{statement}
+use Rattle.fields.proofs.numbers.u64_at.Tie as tie
+use Rattle.fields.proofs.numbers.u64_at.Reads as reads
+use Rattle.fields.proofs.numbers.u64_at.Lts as lts
+use Rattle.fields.proofs.numbers.u32_at.Reads as u32-at-reads
+
+u32-at-requires : tie.Need-u32-at-requires
+u32-at-requires c κs = search needs
+
+add-u32-at : tie.Need-add-u32-at
+add-u32-at c = search needs
+
+u32-at-requires-2 : tie.Need-u32-at-requires-2
+u32-at-requires-2 c κs = search needs
+
+cast-result : tie.Need-cast-result
+cast-result c = search needs
+
+cast-result-2 : tie.Need-cast-result-2
+cast-result-2 c = search needs
+
+mul-result : tie.Need-mul-result
+mul-result c = search needs
+
+add-result : tie.Need-add-result
+add-result c = search needs
+
+returns : tie.Need-returns
+returns c =
+    let a = c .before .before .before .args in
+    ap₂ (λ (x y : ℕ). x + 4294967296 * y) (c .before .u32-at .ensures) (c .u32-at2 .ensures) ∙ sym (le-more 4 4 (a .at) (a .s .now) (omega arith))
+
+pub u64-at-spec : {M : Type 1} → statement M
+u64-at-spec =
+    tie.close
+    (tie.spec
+    u32-at-requires
+    add-u32-at
+    u32-at-requires-2
+    cast-result
+    cast-result-2
+    mul-result
+    add-result
+    returns)
