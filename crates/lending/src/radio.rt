@@ -16,6 +16,14 @@ ghost use Rattle.records.specs.Limits.{lastTime};
 ghost use Rattle.model.specs.Model.{lentModel, SoundTables, Does};
 ghost use Rattle.model.specs.Calls.{unicastFirst, flightOf, castOf, lendUnicast, lendBroadcast, dequeueOf, reportIn, transmittedOf};
 ghost use Rattle.model.specs.declared.Lender.the-variants.{FromUnicasts, FromBroadcasts};
+ghost use Rattle.lending.specs.Choices.{chosenOf};
+
+// The send that goes to the radio, if one does.
+pub(crate) enum Chosen {
+    NoSend,
+    OneUnicast(u32),
+    OneBroadcast(u32),
+}
 
 // Whether the unicast i of rank p goes before the broadcast j of rank q.
 fn unicast_first(i: u32, p: u8, j: u32, q: u8) -> bool
@@ -25,6 +33,27 @@ fn unicast_first(i: u32, p: u8, j: u32, q: u8) -> bool
         return i < j;
     }
     q < p
+}
+
+// Which of the best queued of either table goes first: the one of higher priority, and of equals the older.
+fn choose(x: Best, y: casting::Best) -> Chosen
+    ensures { λ r. ⌜ r ≡ chosenOf x y ⌝ }
+{
+    match x {
+        Best::NoneReady => match y {
+            casting::Best::NoBest => Chosen::NoSend,
+            casting::Best::BestIs(j, _) => Chosen::OneBroadcast(j),
+        },
+        Best::Ready(i, p) => match y {
+            casting::Best::NoBest => Chosen::OneUnicast(i),
+            casting::Best::BestIs(j, q) => {
+                if unicast_first(i, records::priorities::rank(p), j, q) {
+                    return Chosen::OneUnicast(i);
+                }
+                Chosen::OneBroadcast(j)
+            }
+        },
+    }
 }
 
 fn flight(id: u32, x: Loan) -> Answer
@@ -99,20 +128,10 @@ pub fn dequeue(
     }
     let x = scanning::asks::best_queued(w, c.unicasts, clock);
     let y = broadcasts::asks::best_queued(b, c.broadcasts, clock);
-    match x {
-        Best::NoneReady => match y {
-            casting::Best::NoBest => doing::quiet(c, Answer::NothingQueued),
-            casting::Best::BestIs(j, _) => lend_broadcast(c, w, v, d, b, told, j),
-        },
-        Best::Ready(i, p) => match y {
-            casting::Best::NoBest => lend_unicast(c, w, v, d, b, told, i),
-            casting::Best::BestIs(j, q) => {
-                if unicast_first(i, records::priorities::rank(p), j, q) {
-                    return lend_unicast(c, w, v, d, b, told, i);
-                }
-                lend_broadcast(c, w, v, d, b, told, j)
-            }
-        },
+    match choose(x, y) {
+        Chosen::NoSend => doing::quiet(c, Answer::NothingQueued),
+        Chosen::OneUnicast(i) => lend_unicast(c, w, v, d, b, told, i),
+        Chosen::OneBroadcast(j) => lend_broadcast(c, w, v, d, b, told, j),
     }
 }
 
