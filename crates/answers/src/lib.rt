@@ -1,4 +1,4 @@
-// The answers of a trace as bytes: one item for each kind of answer, how long it is, and its writing into a lent output.
+// The answers of a trace as bytes: an item for each kind of answer, its writing into a lent output, and how long a told action is.
 use model::Transmit;
 use records::Action;
 use records::Entry;
@@ -11,12 +11,13 @@ ghost use Prim.Native.Nat.{_+_, _≤_};
 ghost use lib.ListN.{length};
 ghost use Rattle.answers.specs.Bytes.{Written};
 ghost use Rattle.answers.specs.Items.{itemBytes, actionBytes};
+ghost use Rattle.answers.specs.Types.{Refused, Done, Id, YesNo, Time, ShortAddress, ExtendedAddress, Abandonment, DestinationAddress};
 
 pub mod bytes;
 pub mod parts;
 
-// One answer, in the order of the kinds 128 to 141. Handoff, settlement and abandonment name the send and the one that waits
-// for it; the end has the run's status and the bytes consumed.
+// One answer, in the order of the kinds 128 to 141: what the contracts speak of, no code makes one. Handoff, settlement and
+// abandonment name the send and the one that waits for it; the end has the run's status and the bytes consumed.
 pub enum Item {
     Refused(Refusal),
     Done,
@@ -34,29 +35,7 @@ pub enum Item {
     End(u8, u32),
 }
 
-// How many bytes an answer takes, its kind included.
-pub fn item_length(i: Item) -> usize
-    ensures { λ r. ⌜ r ≡ length (itemBytes i) ⌝ }
-{
-    match i {
-        Item::Refused(_) => 2,
-        Item::Done => 1,
-        Item::Id(_) => 5,
-        Item::Handoff(_, _) => 9,
-        Item::Settlement(_, _, _) => 28,
-        Item::Flight(_, _, _) => 13,
-        Item::YesNo(_) => 2,
-        Item::Time(_) => 9,
-        Item::ShortAddress(_) => 3,
-        Item::ExtendedAddress(_) => 9,
-        Item::Key(_) => 4,
-        Item::Abandonment(_, _) => 9,
-        Item::DestinationAddress(_) => 3,
-        Item::End(_, _) => 6,
-    }
-}
-
-// The same for an action that a call told.
+// How many bytes an action that a call told takes, its kind included.
 pub fn action_length(a: Action) -> usize
     ensures { λ r. ⌜ r ≡ length (actionBytes a) ⌝ }
 {
@@ -66,27 +45,80 @@ pub fn action_length(a: Action) -> usize
     }
 }
 
-// Writes an answer from place at on; answers the next place. All else of the output stays.
-pub fn put_item(out: &mut [u8], at: usize, i: Item) -> usize
-    requires { ⌜ at + length (itemBytes i) ≤ length (now out) ⌝ }
-    ensures { λ r. ⌜ Written at (itemBytes i) (now (out .entry)) (now (out .exit)) r ⌝ }
+// Each answer that is not told by a call has its own writer, so that a caller that knows which one it writes makes no item and
+// decides nothing (133, 138 and 141 are in parts). It writes from place at on and answers the next place; all else of the output
+// stays.
+
+// 128 and the number of the refusal.
+pub fn put_refused(out: &mut [u8], at: usize, x: Refusal) -> usize
+    requires { ⌜ at + 2 ≤ length (now out) ⌝ }
+    ensures { λ r. ⌜ Written at (itemBytes (Refused x)) (now (out .entry)) (now (out .exit)) r ⌝ }
 {
-    match i {
-        Item::Refused(r) => { bytes::put_two(out, at, 128, records::numbers::refusal_number(r)) }
-        Item::Done => bytes::put_byte(out, at, 129),
-        Item::Id(n) => bytes::put_number(out, at, 130, 4, n as u64),
-        Item::Handoff(id, waiter) => bytes::put_pair(out, at, 131, id, waiter),
-        Item::Settlement(e, v, hop) => parts::put_settled(out, at, e, v, hop),
-        Item::Flight(id, frame, t) => parts::put_flight(out, at, id, frame, t),
-        Item::YesNo(yes) => bytes::put_two(out, at, 134, yes as u8),
-        Item::Time(t) => bytes::put_number(out, at, 135, 8, t),
-        Item::ShortAddress(x) => bytes::put_number(out, at, 136, 2, x as u64),
-        Item::ExtendedAddress(x) => bytes::put_number(out, at, 137, 8, x),
-        Item::Key(k) => parts::put_key(out, at, k),
-        Item::Abandonment(id, waiter) => bytes::put_pair(out, at, 139, id, waiter),
-        Item::DestinationAddress(x) => bytes::put_number(out, at, 140, 2, x as u64),
-        Item::End(status, consumed) => parts::put_end(out, at, status, consumed),
-    }
+    bytes::put_two(out, at, 128, records::numbers::refusal_number(x))
+}
+
+// 129 alone.
+pub fn put_done(out: &mut [u8], at: usize) -> usize
+    requires { ⌜ at + 1 ≤ length (now out) ⌝ }
+    ensures { λ r. ⌜ Written at (itemBytes Done) (now (out .entry)) (now (out .exit)) r ⌝ }
+{
+    bytes::put_byte(out, at, 129)
+}
+
+// 130 and the id.
+pub fn put_id(out: &mut [u8], at: usize, id: u32) -> usize
+    requires { ⌜ at + 5 ≤ length (now out) ⌝ }
+    ensures { λ r. ⌜ Written at (itemBytes (Id id)) (now (out .entry)) (now (out .exit)) r ⌝ }
+{
+    bytes::put_number(out, at, 130, 4, id as u64)
+}
+
+// 134 and 1 for yes.
+pub fn put_yes_no(out: &mut [u8], at: usize, yes: bool) -> usize
+    requires { ⌜ at + 2 ≤ length (now out) ⌝ }
+    ensures { λ r. ⌜ Written at (itemBytes (YesNo yes)) (now (out .entry)) (now (out .exit)) r ⌝ }
+{
+    bytes::put_two(out, at, 134, yes as u8)
+}
+
+// 135 and the time.
+pub fn put_time(out: &mut [u8], at: usize, t: u64) -> usize
+    requires { ⌜ at + 9 ≤ length (now out) ⌝ }
+    ensures { λ r. ⌜ Written at (itemBytes (Time t)) (now (out .entry)) (now (out .exit)) r ⌝ }
+{
+    bytes::put_number(out, at, 135, 8, t)
+}
+
+// 136 and the short address.
+pub fn put_short(out: &mut [u8], at: usize, x: u16) -> usize
+    requires { ⌜ at + 3 ≤ length (now out) ⌝ }
+    ensures { λ r. ⌜ Written at (itemBytes (ShortAddress x)) (now (out .entry)) (now (out .exit)) r ⌝ }
+{
+    bytes::put_number(out, at, 136, 2, x as u64)
+}
+
+// 137 and the extended address.
+pub fn put_extended(out: &mut [u8], at: usize, x: u64) -> usize
+    requires { ⌜ at + 9 ≤ length (now out) ⌝ }
+    ensures { λ r. ⌜ Written at (itemBytes (ExtendedAddress x)) (now (out .entry)) (now (out .exit)) r ⌝ }
+{
+    bytes::put_number(out, at, 137, 8, x)
+}
+
+// 139, the send and the one that waits for it.
+pub fn put_abandonment(out: &mut [u8], at: usize, id: u32, waiter: u32) -> usize
+    requires { ⌜ at + 9 ≤ length (now out) ⌝ }
+    ensures { λ r. ⌜ Written at (itemBytes (Abandonment id waiter)) (now (out .entry)) (now (out .exit)) r ⌝ }
+{
+    bytes::put_pair(out, at, 139, id, waiter)
+}
+
+// 140 and the destination.
+pub fn put_destination(out: &mut [u8], at: usize, x: u16) -> usize
+    requires { ⌜ at + 3 ≤ length (now out) ⌝ }
+    ensures { λ r. ⌜ Written at (itemBytes (DestinationAddress x)) (now (out .entry)) (now (out .exit)) r ⌝ }
+{
+    bytes::put_number(out, at, 140, 2, x as u64)
 }
 
 // Writes what a call told, as 131 or 132.

@@ -70,7 +70,7 @@ pub(crate) fn put_transmit(out: &mut [u8], at: usize, t: Transmit) -> usize
 }
 
 // 133: id, frame, and how it goes out.
-pub(crate) fn put_flight(out: &mut [u8], at: usize, id: u32, frame: u32, t: Transmit) -> usize
+pub fn put_flight(out: &mut [u8], at: usize, id: u32, frame: u32, t: Transmit) -> usize
     requires { ⌜ at + 13 ≤ length (now out) ⌝ }
     ensures { λ r. ⌜ Written at (flightBytes id frame t) (now (out .entry)) (now (out .exit)) r ⌝ }
 {
@@ -79,7 +79,7 @@ pub(crate) fn put_flight(out: &mut [u8], at: usize, id: u32, frame: u32, t: Tran
 }
 
 // 138: source and sequence.
-pub(crate) fn put_key(out: &mut [u8], at: usize, k: QuorumKey) -> usize
+pub fn put_key(out: &mut [u8], at: usize, k: QuorumKey) -> usize
     requires { ⌜ at + 4 ≤ length (now out) ⌝ }
     ensures { λ r. ⌜ Written at (keyBytes k) (now (out .entry)) (now (out .exit)) r ⌝ }
 {
@@ -88,7 +88,7 @@ pub(crate) fn put_key(out: &mut [u8], at: usize, k: QuorumKey) -> usize
 }
 
 // 141: the run's status and the bytes consumed.
-pub(crate) fn put_end(out: &mut [u8], at: usize, status: u8, consumed: u32) -> usize
+pub fn put_end(out: &mut [u8], at: usize, status: u8, consumed: u32) -> usize
     requires { ⌜ at + 6 ≤ length (now out) ⌝ }
     ensures { λ r. ⌜ Written at (endBytes status consumed) (now (out .entry)) (now (out .exit)) r ⌝ }
 {

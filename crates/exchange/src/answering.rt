@@ -1,6 +1,5 @@
 // The answers to one event, written if they fit before the six bytes that are kept for the end: each function gives the place after
 // them, or 0.
-use answers::Item;
 use model::Answer;
 use records::Opt64;
 use records::Refusal;
@@ -36,7 +35,7 @@ pub(crate) fn answer_done(out: &mut [u8], at: usize) -> usize
     if out.len() - at - 6 < 1 {
         return 0;
     }
-    answers::put_item(out, at, Item::Done)
+    answers::put_done(out, at)
 }
 
 // 128 alone.
@@ -47,7 +46,7 @@ pub(crate) fn answer_refused(out: &mut [u8], at: usize, x: Refusal) -> usize
     if out.len() - at - 6 < 2 {
         return 0;
     }
-    answers::put_item(out, at, Item::Refused(x))
+    answers::put_refused(out, at, x)
 }
 
 // How many bytes the answer to a question of time takes.
@@ -70,7 +69,7 @@ pub(crate) fn answer_wake(out: &mut [u8], at: usize, o: Opt64) -> usize
         return 0;
     }
     let last = listings::put_wake(out, at, o);
-    answers::put_item(out, last, Item::Done)
+    answers::put_done(out, last)
 }
 
 // The n sends that an abandon listed.
@@ -85,5 +84,5 @@ pub(crate) fn answer_abandoned(out: &mut [u8], at: usize, list: &[u64; 128], n: 
         return 0;
     }
     let last = listings::put_abandoned(out, at, list, n);
-    answers::put_item(out, last, Item::Done)
+    answers::put_done(out, last)
 }

@@ -1,5 +1,4 @@
 // Event 20: the held destinations, the keys that await their quorum, the short and the extended source-match set, in this order.
-use answers::Item;
 use lent::lists::Matched;
 use model::Counts;
 use sending::Book;
@@ -96,7 +95,7 @@ fn put_gathered(
     let s = listings::put_keys(out, k, ks, n.keys);
     let l = listings::put_shorts(out, s, ss, n.shorts);
     let last = listings::put_longs(out, l, ls, n.longs);
-    answers::put_item(out, last, Item::Done)
+    answers::put_done(out, last)
 }
 
 // How many bytes they take.

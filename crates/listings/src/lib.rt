@@ -1,6 +1,5 @@
 // What a trace answers beside the tables' calls: a list of numbers out of a lent array, one item for each of its first n places.
 // Each writer answers the next place; all else of the output stays.
-use answers::Item;
 use records::Opt64;
 ghost use Prim.Native.Nat.{_+_, _*_, _≤_};
 ghost use lib.ListN.{length};
@@ -21,7 +20,7 @@ pub fn put_shorts(out: &mut [u8], at: usize, xs: &[u64; 32], n: usize) -> usize
     let mut i: usize = 0;
     while i < n {
         let x = xs[i];
-        next = answers::put_item(out, next, Item::ShortAddress((x % 65536) as u16));
+        next = answers::put_short(out, next, (x % 65536) as u16);
         i = i + 1;
     }
     next
@@ -38,7 +37,7 @@ pub fn put_longs(out: &mut [u8], at: usize, xs: &[u64; 32], n: usize) -> usize
     let mut i: usize = 0;
     while i < n {
         let x = xs[i];
-        next = answers::put_item(out, next, Item::ExtendedAddress(x));
+        next = answers::put_extended(out, next, x);
         i = i + 1;
     }
     next
@@ -55,7 +54,7 @@ pub fn put_destinations(out: &mut [u8], at: usize, xs: &[u16; 16], n: usize) -> 
     let mut i: usize = 0;
     while i < n {
         let x = xs[i];
-        next = answers::put_item(out, next, Item::DestinationAddress(x));
+        next = answers::put_destination(out, next, x);
         i = i + 1;
     }
     next
@@ -73,7 +72,7 @@ pub fn put_keys(out: &mut [u8], at: usize, xs: &[u64; 16], n: usize) -> usize
     while i < n {
         let x = xs[i];
         let k = codes::quorum_of(x);
-        next = answers::put_item(out, next, Item::Key(k));
+        next = answers::parts::put_key(out, next, k);
         i = i + 1;
     }
     next
@@ -92,7 +91,7 @@ pub fn put_abandoned(out: &mut [u8], at: usize, xs: &[u64; 128], n: usize) -> us
         let k = i * 2;
         let id = (xs[k] % 4294967296) as u32;
         let waiter = (xs[k + 1] % 4294967296) as u32;
-        next = answers::put_item(out, next, Item::Abandonment(id, waiter));
+        next = answers::put_abandonment(out, next, id, waiter);
         i = i + 1;
     }
     next
@@ -105,6 +104,6 @@ pub fn put_wake(out: &mut [u8], at: usize, o: Opt64) -> usize
 {
     match o {
         Opt64::None64 => at,
-        Opt64::Some64(t) => answers::put_item(out, at, Item::Time(t)),
+        Opt64::Some64(t) => answers::put_time(out, at, t),
     }
 }

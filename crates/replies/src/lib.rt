@@ -1,6 +1,5 @@
 // The reply to one event of a trace as bytes: the call's answer, the actions that it told, and 129; or one 128 alone. First how long it is,
 // then its writing into a lent output.
-use answers::Item;
 use model::Answer;
 ghost use mathlib.Core.Path.{_≡_};
 ghost use Prim.Native.Nat.{_+_, _≤_};
@@ -70,12 +69,12 @@ fn put_answer(out: &mut [u8], at: usize, a: Answer) -> usize
     ensures { λ r. ⌜ Written at (itemsBytes (answerItems a)) (now (out .entry)) (now (out .exit)) r ⌝ }
 {
     match a {
-        Answer::Denied(x) => answers::put_item(out, at, Item::Refused(x)),
+        Answer::Denied(x) => answers::put_refused(out, at, x),
         Answer::Accepted => at,
-        Answer::Issued(id) => answers::put_item(out, at, Item::Id(id)),
-        Answer::Replied(b) => answers::put_item(out, at, Item::YesNo(b)),
+        Answer::Issued(id) => answers::put_id(out, at, id),
+        Answer::Replied(b) => answers::put_yes_no(out, at, b),
         Answer::NothingQueued => at,
-        Answer::InFlight(id, frame, t) => answers::put_item(out, at, Item::Flight(id, frame, t)),
+        Answer::InFlight(id, frame, t) => answers::parts::put_flight(out, at, id, frame, t),
     }
 }
 
@@ -103,5 +102,5 @@ pub fn put_reply(out: &mut [u8], at: usize, a: Answer, told: &[u64; 560], n: usi
         return second;
     }
     let third = put_actions(out, second, told, n);
-    answers::put_item(out, third, Item::Done)
+    answers::put_done(out, third)
 }

@@ -1,5 +1,4 @@
 // The walk over a trace's records: one after the other, on fresh tables, their answers into a lent output, and last the end.
-use answers::Item;
 use framing::Standing;
 use model::Counts;
 ghost use mathlib.Core.Path.{_≡_};
@@ -29,7 +28,7 @@ pub fn end(out: &mut [u8], at: usize, status: u8, consumed: usize) -> usize
     requires { ⌜ consumed ≤ 65536 ⌝ }
     ensures { λ r. ⌜ Written at (endBytes status consumed) (now (out .entry)) (now (out .exit)) r ⌝ }
 {
-    answers::put_item(out, at, Item::End(status, consumed as u32))
+    answers::parts::put_end(out, at, status, consumed as u32)
 }
 
 // The tables, settings and map stand here and are lent to each turn; an event whose answers do not fit ends the run, and with it

@@ -8,7 +8,7 @@ use Rattle.listings.proofs.put_abandoned.Statement.{statement}
 use Rattle.listings.proofs.put_abandoned.Tie as tie
 use Rattle.listings.proofs.put_abandoned.Reads as reads
 use Rattle.listings.proofs.put_abandoned.Lts as lts
-use Rattle.answers.proofs.put_item.Reads as put-item-reads
+use Rattle.answers.proofs.put_abandonment.Reads as put-abandonment-reads
 
 abbrev Inv-loop : tie.InvT-loop
 Inv-loop out₀ at xs n next₀ i₀ out next i = Putting (abandonedItems xs n) n at out₀ out next i
@@ -45,8 +45,8 @@ element-copy-out-waiter c = search needs
 cast-waiter : tie.Need-cast-waiter Inv-loop μ-loop
 cast-waiter c = search needs
 
-put-item-requires : tie.Need-put-item-requires Inv-loop μ-loop
-put-item-requires c κs =
+put-abandonment-requires : tie.Need-put-abandonment-requires Inv-loop μ-loop
+put-abandonment-requires c κs =
     let k = c .before .before .before .before in
     let s = k .before .before in
     let e = two-item (s .args .xs .now) (s .args .n) (k .loop .i) (omega (arith, s .pre)) (omega arith) in
@@ -63,7 +63,7 @@ loop-again c =
     let k = c .before .before .before .before .before .before .before in
     let s = k .before .before in
     let e = two-item (s .args .xs .now) (s .args .n) (k .loop .i) (omega (arith, s .pre)) (omega arith) in
-    put-turn (k .loop .inv) (omega arith) e (c .before .before .put-item .ensures)
+    put-turn (k .loop .inv) (omega arith) e (c .before .before .put-abandonment .ensures)
 
 same-length : tie.Need-same-length Inv-loop μ-loop
 same-length c = search needs
@@ -86,7 +86,7 @@ put-abandoned-spec =
     mul-waiter
     element-copy-out-waiter
     cast-waiter
-    put-item-requires
+    put-abandonment-requires
     add-i
     loop-less
     loop-again

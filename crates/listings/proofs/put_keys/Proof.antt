@@ -10,7 +10,7 @@ use Rattle.listings.proofs.put_keys.Statement.{statement}
 use Rattle.listings.proofs.put_keys.Tie as tie
 use Rattle.listings.proofs.put_keys.Reads as reads
 use Rattle.listings.proofs.put_keys.Lts as lts
-use Rattle.answers.proofs.put_item.Reads as put-item-reads
+use Rattle.answers.proofs.parts.put_key.Reads as put-key-reads
 use Rattle.codes.proofs.quorum_of.Reads as quorum-of-reads
 
 abbrev Inv-loop : tie.InvT-loop
@@ -33,8 +33,8 @@ element-copy-out-x c = search needs
 quorum-of-requires : tie.Need-quorum-of-requires Inv-loop μ-loop
 quorum-of-requires c κs = search needs
 
-put-item-requires : tie.Need-put-item-requires Inv-loop μ-loop
-put-item-requires c κs =
+put-key-requires : tie.Need-put-key-requires Inv-loop μ-loop
+put-key-requires c κs =
     let k = c .before .before .before .before in
     let s = k .before .before in
     let e = map-item keyItem (s .args .xs .now) (s .args .n) (k .loop .i) (omega (arith, s .pre)) (omega arith) in
@@ -51,7 +51,7 @@ loop-again c =
     let k = c .before .before .before .before .before .before .before in
     let s = k .before .before in
     let e = map-item keyItem (s .args .xs .now) (s .args .n) (k .loop .i) (omega (arith, s .pre)) (omega arith) in
-    put-turn (k .loop .inv) (omega arith) (e ∙ ap Key (sym (c .before .before .before .before .quorum-of .ensures))) (c .before .before .put-item .ensures)
+    put-turn (k .loop .inv) (omega arith) (e ∙ ap Key (sym (c .before .before .before .before .quorum-of .ensures))) (c .before .before .put-key .ensures)
 
 same-length : tie.Need-same-length Inv-loop μ-loop
 same-length c = search needs
@@ -69,7 +69,7 @@ put-keys-spec =
     mul-x
     element-copy-out-x
     quorum-of-requires
-    put-item-requires
+    put-key-requires
     add-i
     loop-less
     loop-again

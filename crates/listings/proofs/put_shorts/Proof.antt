@@ -8,7 +8,7 @@ use Rattle.listings.proofs.put_shorts.Statement.{statement}
 use Rattle.listings.proofs.put_shorts.Tie as tie
 use Rattle.listings.proofs.put_shorts.Reads as reads
 use Rattle.listings.proofs.put_shorts.Lts as lts
-use Rattle.answers.proofs.put_item.Reads as put-item-reads
+use Rattle.answers.proofs.put_short.Reads as put-short-reads
 
 abbrev Inv-loop : tie.InvT-loop
 Inv-loop out₀ at xs n next₀ i₀ out next i = Putting (shortItems xs n) n at out₀ out next i
@@ -27,11 +27,11 @@ mul-x c = search needs
 element-copy-out-x : tie.Need-element-copy-out-x Inv-loop μ-loop
 element-copy-out-x c = search needs
 
-cast-t15 : tie.Need-cast-t15 Inv-loop μ-loop
-cast-t15 c = search needs
+cast-put-short : tie.Need-cast-put-short Inv-loop μ-loop
+cast-put-short c = search needs
 
-put-item-requires : tie.Need-put-item-requires Inv-loop μ-loop
-put-item-requires c κs =
+put-short-requires : tie.Need-put-short-requires Inv-loop μ-loop
+put-short-requires c κs =
     let k = c .before .before .before in
     let s = k .before .before in
     let e = map-item shortItem (s .args .xs .now) (s .args .n) (k .loop .i) (omega (arith, s .pre)) (omega arith) in
@@ -48,7 +48,7 @@ loop-again c =
     let k = c .before .before .before .before .before .before in
     let s = k .before .before in
     let e = map-item shortItem (s .args .xs .now) (s .args .n) (k .loop .i) (omega (arith, s .pre)) (omega arith) in
-    put-turn (k .loop .inv) (omega arith) e (c .before .before .put-item .ensures)
+    put-turn (k .loop .inv) (omega arith) e (c .before .before .put-short .ensures)
 
 same-length : tie.Need-same-length Inv-loop μ-loop
 same-length c = search needs
@@ -65,8 +65,8 @@ put-shorts-spec =
     loop-holds
     mul-x
     element-copy-out-x
-    cast-t15
-    put-item-requires
+    cast-put-short
+    put-short-requires
     add-i
     loop-less
     loop-again

@@ -9,7 +9,7 @@ use Rattle.listings.proofs.put_wake.Statement.{statement}
 use Rattle.listings.proofs.put_wake.Tie as tie
 use Rattle.listings.proofs.put_wake.Reads as reads
 use Rattle.listings.proofs.put_wake.Lts as lts
-use Rattle.answers.proofs.put_item.Reads as put-item-reads
+use Rattle.answers.proofs.put_time.Reads as put-time-reads
 
 enum-told : tie.Need-enum-told
 enum-told c = search needs
@@ -17,8 +17,8 @@ enum-told c = search needs
 enum-known-o : tie.Need-enum-known-o
 enum-known-o c = search needs
 
-put-item-requires : tie.Need-put-item-requires
-put-item-requires c κs =
+put-time-requires : tie.Need-put-time-requires
+put-time-requires c κs =
     let e = ap length (wake-some (c .before .before .o .given .1)) in
     omega arith
 
@@ -29,8 +29,8 @@ same-length : tie.Need-same-length
 same-length c = search needs
 
 returns-2 : tie.Need-returns-2
-returns-2 c = written-as (wake-some (c .before .before .before .before .before .o .given .1)) (c .before .before .put-item .ensures)
+returns-2 c = written-as (wake-some (c .before .before .before .before .before .o .given .1)) (c .before .before .put-time .ensures)
 
 pub put-wake-spec : {M : Type 1} → statement M
 put-wake-spec =
-    tie.close (tie.spec enum-told enum-known-o put-item-requires returns same-length returns-2)
+    tie.close (tie.spec enum-told enum-known-o put-time-requires returns same-length returns-2)

@@ -9,7 +9,7 @@ use Rattle.replies.proofs.put_reply.Statement.{statement}
 use Rattle.replies.proofs.put_reply.Tie as tie
 use Rattle.replies.proofs.put_reply.Reads as reads
 use Rattle.replies.proofs.put_reply.Lts as lts
-use Rattle.answers.proofs.put_item.Reads as put-item-reads
+use Rattle.answers.proofs.put_done.Reads as put-done-reads
 use Rattle.replies.proofs.put_actions.Reads as put-actions-reads
 use Rattle.replies.proofs.put_answer.Reads as put-answer-reads
 use Rattle.replies.proofs.refuses.Reads as refuses-reads
@@ -43,8 +43,8 @@ put-actions-requires c κs =
     let n = c .before .before .before .before .put-answer .ensures .next in
     (s .pre .0, omega arith)
 
-put-item-requires : tie.Need-put-item-requires
-put-item-requires c κs =
+put-done-requires : tie.Need-put-done-requires
+put-done-requires c κs =
     let s = c .before .before .before .before .before .before .before .before .before .before .before .before in
     let a = s .args in
     let g = reply-long (a .a) (actsOf (a .told .now) (a .n)) (sym (c .before .before .before .before .before .before .before .before .before .before .refuses .ensures) ∙ c .before .before .before .before .before .if1 .left) in
@@ -63,7 +63,7 @@ returns-2 c =
     let a = c .before .before .before .before .before .before .before .before .before .before .before .before .before .before .before .args in
     let e = sym (c .before .before .before .before .before .before .before .before .before .before .before .before .before .refuses .ensures) ∙ c .before .before .before .before .before .before .before .before .if1 .left in
     written-as (sym (reply-whole (a .a) (actsOf (a .told .now) (a .n)) e))
-    (written-append (c .before .before .before .before .before .before .before .before .before .before .before .put-answer .ensures) (written-append (c .before .before .before .before .before .before .put-actions .ensures) (c .before .before .put-item .ensures)))
+    (written-append (c .before .before .before .before .before .before .before .before .before .before .before .put-answer .ensures) (written-append (c .before .before .before .before .before .before .put-actions .ensures) (c .before .before .put-done .ensures)))
 
 pub put-reply-spec : {M : Type 1} → statement M
 put-reply-spec =
@@ -74,6 +74,6 @@ put-reply-spec =
     same-length
     returns
     put-actions-requires
-    put-item-requires
+    put-done-requires
     same-length-2
     returns-2)

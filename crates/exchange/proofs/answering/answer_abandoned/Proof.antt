@@ -10,7 +10,7 @@ use Rattle.exchange.proofs.answering.answer_abandoned.Statement.{statem
 use Rattle.exchange.proofs.answering.answer_abandoned.Tie as tie
 use Rattle.exchange.proofs.answering.answer_abandoned.Reads as reads
 use Rattle.exchange.proofs.answering.answer_abandoned.Lts as lts
-use Rattle.answers.proofs.put_item.Reads as put-item-reads
+use Rattle.answers.proofs.put_done.Reads as put-done-reads
 use Rattle.listings.proofs.put_abandoned.Reads as put-abandoned-reads
 
 mul-long : tie.Need-mul-long
@@ -39,8 +39,8 @@ put-abandoned-requires c κs =
     let e = abandoned-long (s .args .list .now) (s .args .n) (s .pre .1 .0) in
     (s .pre .0, (s .pre .1 .0, omega (arith, e, c .before .if1 .left, s .pre .1 .1)))
 
-put-item-requires : tie.Need-put-item-requires
-put-item-requires c κs =
+put-done-requires : tie.Need-put-done-requires
+put-done-requires c κs =
     let s = c .before .before .before .before .before .before .before in
     let e = abandoned-long (s .args .list .now) (s .args .n) (s .pre .1 .0) in
     let p = c .before .before .before .put-abandoned in
@@ -54,7 +54,7 @@ returns-2 c =
     let s = c .before .before .before .before .before .before .before .before .before .before in
     let is = abandonedItems (s .args .list .now) (s .args .n) in
     let e = abandoned-long (s .args .list .now) (s .args .n) (s .pre .1 .0) in
-    all-fit (s .pre .1 .1) (omega (arith, e, done-long is, c .before .before .before .before .before .before .before .before .if1 .left)) (written-more is Done (c .before .before .before .before .before .before .put-abandoned .ensures) (c .before .before .put-item .ensures))
+    all-fit (s .pre .1 .1) (omega (arith, e, done-long is, c .before .before .before .before .before .before .before .before .if1 .left)) (written-more is Done (c .before .before .before .before .before .before .put-abandoned .ensures) (c .before .before .put-done .ensures))
 
 pub answer-abandoned-spec : {M : Type 1} → statement M
 answer-abandoned-spec =
@@ -66,6 +66,6 @@ answer-abandoned-spec =
     sub-if1-2
     returns
     put-abandoned-requires
-    put-item-requires
+    put-done-requires
     same-length
     returns-2)

@@ -6,7 +6,7 @@ use Rattle.exchange.proofs.answering.answer_refused.Statement.{statemen
 use Rattle.exchange.proofs.answering.answer_refused.Tie as tie
 use Rattle.exchange.proofs.answering.answer_refused.Reads as reads
 use Rattle.exchange.proofs.answering.answer_refused.Lts as lts
-use Rattle.answers.proofs.put_item.Reads as put-item-reads
+use Rattle.answers.proofs.put_refused.Reads as put-refused-reads
 
 sub-if1 : tie.Need-sub-if1
 sub-if1 c = search needs
@@ -17,15 +17,15 @@ sub-if1-2 c = search needs
 returns : tie.Need-returns
 returns c = no-room (c .before .before .pre) (omega arith)
 
-put-item-requires : tie.Need-put-item-requires
-put-item-requires c κs = search needs
+put-refused-requires : tie.Need-put-refused-requires
+put-refused-requires c κs = search needs
 
 same-length : tie.Need-same-length
 same-length c = search needs
 
 returns-2 : tie.Need-returns-2
-returns-2 c = all-fit (c .before .before .before .before .before .before .pre) (omega arith) (c .before .before .put-item .ensures)
+returns-2 c = all-fit (c .before .before .before .before .before .before .pre) (omega arith) (c .before .before .put-refused .ensures)
 
 pub answer-refused-spec : {M : Type 1} → statement M
 answer-refused-spec =
-    tie.close (tie.spec sub-if1 sub-if1-2 returns put-item-requires same-length returns-2)
+    tie.close (tie.spec sub-if1 sub-if1-2 returns put-refused-requires same-length returns-2)

@@ -9,7 +9,7 @@ use Rattle.exchange.proofs.answering.answer_wake.Statement.{statement}
 use Rattle.exchange.proofs.answering.answer_wake.Tie as tie
 use Rattle.exchange.proofs.answering.answer_wake.Reads as reads
 use Rattle.exchange.proofs.answering.answer_wake.Lts as lts
-use Rattle.answers.proofs.put_item.Reads as put-item-reads
+use Rattle.answers.proofs.put_done.Reads as put-done-reads
 use Rattle.listings.proofs.put_wake.Reads as put-wake-reads
 use Rattle.exchange.proofs.answering.wake_length.Reads as wake-length-reads
 
@@ -38,8 +38,8 @@ returns c =
 put-wake-requires : tie.Need-put-wake-requires
 put-wake-requires c κs = search needs
 
-put-item-requires : tie.Need-put-item-requires
-put-item-requires c κs = search needs
+put-done-requires : tie.Need-put-done-requires
+put-done-requires c κs = search needs
 
 same-length : tie.Need-same-length
 same-length c = search needs
@@ -49,7 +49,7 @@ returns-2 c =
     let s = c .before .before .before .before .before .before .before .before .before .before .before in
     let l = c .before .before .before .before .before .before .before .before .before .wake-length .ensures in
     let m = done-long (wakeItems (s .args .o)) in
-    all-fit (s .pre) (omega arith) (written-more (wakeItems (s .args .o)) Done (c .before .before .before .before .before .before .put-wake .ensures) (c .before .before .put-item .ensures))
+    all-fit (s .pre) (omega arith) (written-more (wakeItems (s .args .o)) Done (c .before .before .before .before .before .before .put-wake .ensures) (c .before .before .put-done .ensures))
 
 pub answer-wake-spec : {M : Type 1} → statement M
 answer-wake-spec =
@@ -61,6 +61,6 @@ answer-wake-spec =
     sub-if1-2
     returns
     put-wake-requires
-    put-item-requires
+    put-done-requires
     same-length
     returns-2)

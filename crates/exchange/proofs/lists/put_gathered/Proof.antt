@@ -13,7 +13,7 @@ use Rattle.exchange.proofs.lists.put_gathered.Statement.{statement}
 use Rattle.exchange.proofs.lists.put_gathered.Tie as tie
 use Rattle.exchange.proofs.lists.put_gathered.Reads as reads
 use Rattle.exchange.proofs.lists.put_gathered.Lts as lts
-use Rattle.answers.proofs.put_item.Reads as put-item-reads
+use Rattle.answers.proofs.put_done.Reads as put-done-reads
 use Rattle.listings.proofs.put_destinations.Reads as put-destinations-reads
 use Rattle.listings.proofs.put_keys.Reads as put-keys-reads
 use Rattle.listings.proofs.put_longs.Reads as put-longs-reads
@@ -64,8 +64,8 @@ put-longs-requires c κs =
     let a = o .args in
     (o .pre .0 .few .longs, (o .pre .0 .longs, omega (arith, first-short (longItems (a .ls .now) (a .n .longs)) (Done ∷ []), past-shorts (c .before .before .before))))
 
-put-item-requires : tie.Need-put-item-requires
-put-item-requires c κs = past-longs (c .before .before .before)
+put-done-requires : tie.Need-put-done-requires
+put-done-requires c κs = past-longs (c .before .before .before)
 
 same-length : tie.Need-same-length
 same-length c = search needs
@@ -76,7 +76,7 @@ returns c =
     written-items (destinationItems (a .ds .now) (a .n .destinations)) (fromKeys (a .ks .now) (a .ss .now) (a .ls .now) (a .n)) (c .before .before .before .before .before .before .before .before .before .before .before .before .before .before .before .before .before .before .put-destinations .ensures)
     (written-items (keyItems (a .ks .now) (a .n .keys)) (fromShorts (a .ss .now) (a .ls .now) (a .n)) (c .before .before .before .before .before .before .before .before .before .before .before .before .before .before .put-keys .ensures)
     (written-items (shortItems (a .ss .now) (a .n .shorts)) (fromLongs (a .ls .now) (a .n)) (c .before .before .before .before .before .before .before .before .before .before .put-shorts .ensures)
-    (written-more (longItems (a .ls .now) (a .n .longs)) Done (c .before .before .before .before .before .before .put-longs .ensures) (c .before .before .put-item .ensures))))
+    (written-more (longItems (a .ls .now) (a .n .longs)) Done (c .before .before .before .before .before .before .put-longs .ensures) (c .before .before .put-done .ensures))))
 
 pub put-gathered-spec : {M : Type 1} → statement M
 put-gathered-spec =
@@ -86,6 +86,6 @@ put-gathered-spec =
     put-keys-requires
     put-shorts-requires
     put-longs-requires
-    put-item-requires
+    put-done-requires
     same-length
     returns)
