@@ -11,11 +11,14 @@ use sending::Sought;
 use sending::Which;
 use tables::unicast_rows::UnicastHead;
 ghost use mathlib.Core.Path.{_≡_};
-ghost use Rattle.sending.specs.Rules.{unsent, under, awaitsHead, copiesBy, pendingHead, pendsHead, besideHead, sentCopyHead, soughtHead, lapseDue, retryDue, tickDue, dropDue, copyDue, dueHead, readyHead, betterOf, bestHead, soonerThan, wakeHead};
+ghost use mathlib.Core.Bool.{true, false};
+ghost use Rattle.records.specs.declared.SendFailure.the-variants.{ApsAckTimeout};
+ghost use Rattle.sending.specs.declared.Due.the-variants.{Leave};
+ghost use Rattle.sending.specs.Rules.{unsent, under, copiesBy, pendingHead, pendsHead, besideHead, sentCopyHead, soughtHead, lapseDue, retryDue, tickDue, dropDue, copyDue, dueHead, betterOf, soonerThan, wakeHead};
 
 // ---- what a scan asks
 
-fn is_under(a: Address, eui: Opt64, nwk: Opt16) -> bool
+pub fn is_under(a: Address, eui: Opt64, nwk: Opt16) -> bool
     ensures { λ r. ⌜ r ≡ under eui nwk a ⌝ }
 {
     match a {
@@ -29,19 +32,6 @@ fn is_under(a: Address, eui: Opt64, nwk: Opt16) -> bool
             Opt64::Some64(m) => n == m,
         },
     }
-}
-
-fn is_awaited(h: UnicastHead, eui: Opt64, nwk: Opt16, clock: u64) -> bool
-    ensures { λ r. ⌜ r ≡ awaitsHead eui nwk clock h ⌝ }
-{
-    let s = h.stage;
-    let a = h.poll_address;
-    if turning::rules::is_awaiting(s) {
-        if clock < h.deadline {
-            return is_under(a, eui, nwk);
-        }
-    }
-    false
 }
 
 fn is_copy(o: Opt32, id: u32) -> bool
@@ -102,7 +92,6 @@ pub fn is_sought(h: UnicastHead, what: Sought) -> bool
     ensures { λ r. ⌜ r ≡ soughtHead what h ⌝ }
 {
     match what {
-        Sought::Polled(eui, nwk, clock) => is_awaited(h, eui, nwk, clock),
         Sought::Pending(a) => is_pending(h, a),
         Sought::Beside(id, a) => is_beside(h, id, a),
         Sought::SentCopy(id) => is_sent_copy(h, id),
@@ -122,14 +111,25 @@ fn unsent_failure(a: Address) -> SendFailure
     }
 }
 
-// A deadline that has come fails the send; otherwise d.
-fn lapse_due(h: UnicastHead, clock: u64, f: SendFailure, again: bool, d: Due) -> Due
-    ensures { λ r. ⌜ r ≡ lapseDue clock h f again d ⌝ }
+// A deadline that has come fails a send that was never handed off; otherwise d. The failure, which has the address in it, is made only then.
+fn lapse_unsent(h: UnicastHead, clock: u64, d: Due) -> Due
+    ensures { λ r. ⌜ r ≡ lapseDue clock h (unsent (h .«poll_address»)) false d ⌝ }
 {
     if h.deadline <= clock {
-        return Due::Finish(again, f);
+        let a = h.poll_address;
+        return Due::Finish(false, unsent_failure(a));
     }
     d
+}
+
+// A deadline that has come fails a send that awaits its ack.
+fn lapse_acking(h: UnicastHead, clock: u64) -> Due
+    ensures { λ r. ⌜ r ≡ lapseDue clock h ApsAckTimeout true Leave ⌝ }
+{
+    if h.deadline <= clock {
+        return Due::Finish(true, SendFailure::ApsAckTimeout);
+    }
+    Due::Leave
 }
 
 fn retry_due(at: u64, clock: u64) -> Due
@@ -145,14 +145,12 @@ fn tick_due(h: UnicastHead, clock: u64) -> Due
     ensures { λ r. ⌜ r ≡ tickDue clock h (h .stage) ⌝ }
 {
     let s = h.stage;
-    let a = h.poll_address;
-    let f = unsent_failure(a);
     match s {
-        Stage::Queued => lapse_due(h, clock, f, false, Due::Leave),
+        Stage::Queued => lapse_unsent(h, clock, Due::Leave),
         Stage::Transmitting(_) => Due::Leave,
-        Stage::Retrying(at) => lapse_due(h, clock, f, false, retry_due(at, clock)),
-        Stage::AwaitingPoll => lapse_due(h, clock, f, false, Due::Leave),
-        Stage::AwaitingApsAck => lapse_due(h, clock, SendFailure::ApsAckTimeout, true, Due::Leave),
+        Stage::Retrying(at) => lapse_unsent(h, clock, retry_due(at, clock)),
+        Stage::AwaitingPoll => lapse_unsent(h, clock, Due::Leave),
+        Stage::AwaitingApsAck => lapse_acking(h, clock),
     }
 }
 
@@ -192,18 +190,8 @@ pub fn due_of(h: UnicastHead, which: Which) -> Due
 
 // ---- the turns of a fold
 
-fn is_ready(h: UnicastHead, clock: u64) -> bool
-    ensures { λ r. ⌜ r ≡ readyHead clock h ⌝ }
-{
-    let s = h.stage;
-    if turning::rules::is_queued(s) {
-        return clock < h.deadline;
-    }
-    false
-}
-
 // The better of a send and the best of those with a higher id.
-fn better_of(h: UnicastHead, b: Best) -> Best
+pub fn better_of(h: UnicastHead, b: Best) -> Best
     ensures { λ r. ⌜ r ≡ betterOf h b ⌝ }
 {
     let p = h.priority;
@@ -216,15 +204,6 @@ fn better_of(h: UnicastHead, b: Best) -> Best
             Best::Ready(h.id, p)
         }
     }
-}
-
-pub fn best_with(h: UnicastHead, clock: u64, b: Best) -> Best
-    ensures { λ r. ⌜ r ≡ bestHead clock h b ⌝ }
-{
-    if is_ready(h, clock) {
-        return better_of(h, b);
-    }
-    b
 }
 
 fn sooner_than(at: u64, d: u64) -> u64

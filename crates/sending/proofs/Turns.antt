@@ -1,16 +1,17 @@
--- What the tests of the code say of a send's turn; each rule keeps the entry; a sweep by heads is 01's rule. Assumes nothing.
+-- What the tests of the code say of a send's turn; each rule keeps the entry; a sweep by heads is 01's rule; what a call need not look at. Assumes nothing.
 use Prim.Native.Nat.{ℕ}
 use mathlib.Core.Path.{_≡_, refl, sym, ap, _∙_}
-use mathlib.Core.Bool.{Bool, true, false, _&&_}
+use mathlib.Core.Bool.{Bool, true, false, not, _&&_, _||_}
+use mathlib.Core.List.{List, [], _∷_}
 use lib.Dec.{ltb, leb, eqb}
 use Rattle.records.specs.Pick.{pick}
-use Rattle.records.proofs.Cases.{either}
+use Rattle.records.proofs.Cases.{either, never}
 use Rattle.records.specs.Records.{unicastEntry}
 use Rattle.rows.specs.Moves.Turn.{Keeps, Settles}
-use Rattle.rows.specs.Moves.{Same}
+use Rattle.rows.specs.Moves.{Same, anyOf}
 use Rattle.tables.specs.Layouts.{unicastHead}
 use Rattle.sending.specs.Types.{None16, Some16, Opt64, Address, Absent, Short, Extended, AckKey, Confirm, OnHandoff, ApsAck, Stage, Queued, Transmitting, Retrying, AwaitingPoll, AwaitingApsAck, Unicast, TxResult, Sent, Failed, ApsAckTimeout, Cancelled, Failure, UnicastHead, Due, Leave, Requeue, Finish, Which, Lapsed, Dropped, CopyOf, Sought}
-use Rattle.sending.specs.Rules.{withStage, isAwaiting, isAcking, lendTurn, pollTurn, keyedBy, keyed, ackBy, ackTurn, handOffBy, failHeld, failBy, reportSent, reportBy, reportTurn, unsent, requeued, lapseBy, lapseTurn, tickTurn, under, dropTurn, cancelTurn, copies, copyTurn, soughtHead, sought, tickDue, dueHead, dueTurn, sweepTurn}
+use Rattle.sending.specs.Rules.{withStage, isAwaiting, isAcking, lendTurn, pollTurn, keyedBy, keyed, ackBy, ackTurn, handOffBy, failHeld, failBy, reportSent, reportBy, reportTurn, unsent, requeued, lapseBy, lapseTurn, tickTurn, retries, stirs, under, dropTurn, cancelTurn, copies, copyTurn, pendingHead, names, beside, soughtHead, sought, tickDue, dueHead, dueTurn, sweepTurn}
 
 -- ---- what the code read
 
@@ -146,3 +147,35 @@ sweep-copy i u = go (copies i u)
     go : (b : Bool) → dueTurn (pick b (Finish (isAcking (u .stage)) Cancelled) Leave) u ≡ pick b (cancelTurn u) (Keeps u)
     go true = refl
     go false = refl
+
+-- ---- what a call need not look at
+
+-- a tick leaves a send that rests
+pub tick-rests : (now : ℕ) (u : Unicast) → stirs now u ≡ false → tickTurn now u ≡ Keeps u
+tick-rests now u e = go (leb (u .deadline) now) e
+  where
+    stays : (s : Stage) → retries now s ≡ false → requeued now s ≡ s
+    stays Queued e = refl
+    stays (Transmitting k) e = refl
+    stays (Retrying at) e = ap (λ (b : Bool). pick b Queued (Retrying at)) e
+    stays AwaitingPoll e = refl
+    stays AwaitingApsAck e = refl
+
+    go : (b : Bool) → b || retries now (u .stage) ≡ false
+        → pick b (lapseBy (withStage u (requeued now (u .stage))) (requeued now (u .stage))) (Keeps (withStage u (requeued now (u .stage)))) ≡ Keeps u
+    go true e = never (sym e)
+    go false e = ap (λ (s : Stage). Keeps (withStage u s)) (stays (u .stage) e)
+
+-- no send is pending for no address
+pub beside-none : (i : ℕ) (us : List Unicast) → anyOf (beside i Absent) us ≡ false
+beside-none i [] = refl
+beside-none i (u ∷ us) = rw (unnamed (pendingHead (unicastHead u))) (by (not (eqb (u .id) i)) (beside-none i us))
+  where
+    unnamed : (a : Address) → names Absent a ≡ false
+    unnamed Absent = refl
+    unnamed (Short n) = refl
+    unnamed (Extended n) = refl
+
+    by : (b : Bool) {r : Bool} → r ≡ false → pick (b && false) true r ≡ false
+    by true e = e
+    by false e = e

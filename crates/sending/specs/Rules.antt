@@ -1,6 +1,6 @@
 -- 01's rules of unicasts, on one send: what each call makes of it, as a turn, and what is asked of it.
 use Prim.Native.Nat.{ℕ, _+_, _-_}
-use mathlib.Core.Bool.{Bool, true, false, not, _&&_}
+use mathlib.Core.Bool.{Bool, true, false, not, _&&_, _||_}
 use lib.Dec.{ltb, leb, eqb}
 use Rattle.records.specs.Pick.{pick}
 use Rattle.records.specs.Priorities.{rankOf}
@@ -9,7 +9,7 @@ use Rattle.records.specs.Times.{sooner}
 use Rattle.rows.specs.Moves.{Turn}
 use Rattle.rows.specs.Moves.Turn.{Keeps, HandsOff, Settles}
 use Rattle.tables.specs.Layouts.{unicastHead}
-use Rattle.sending.specs.Types.{Opt16, None16, Some16, Opt32, None32, Some32, Opt64, None64, Some64, Address, Absent, Short, Extended, Priority, StackCritical, AckKey, Confirm, OnHandoff, ApsAck, Stage, Queued, Transmitting, Retrying, AwaitingPoll, AwaitingApsAck, Unicast, Settings, TxResult, Sent, Failed, SendFailure, HandoffTimeout, ApsAckTimeout, IndirectExpired, Cancelled, Verdict, Success, Failure, Code, UnicastHead, UnicastTurn, KeepsU, HandsOffU, SettlesU, Due, Leave, Requeue, Finish, Which, Lapsed, Dropped, CopyOf, Sought, Polled, Pending, Beside, SentCopy, Best, NoneReady, Ready}
+use Rattle.sending.specs.Types.{Opt16, None16, Some16, Opt32, None32, Some32, Opt64, None64, Some64, Address, Absent, Short, Extended, Priority, StackCritical, AckKey, Confirm, OnHandoff, ApsAck, Stage, Queued, Transmitting, Retrying, AwaitingPoll, AwaitingApsAck, Unicast, Settings, TxResult, Sent, Failed, SendFailure, HandoffTimeout, ApsAckTimeout, IndirectExpired, Cancelled, Verdict, Success, Failure, Code, UnicastHead, UnicastTurn, KeepsU, HandsOffU, SettlesU, Due, Leave, Requeue, Finish, Which, Lapsed, Dropped, CopyOf, Sought, Pending, Beside, SentCopy, Best, NoneReady, Ready}
 
 -- the turn that a rule of the code answers
 abbrev pub turnU : UnicastTurn → Turn Unicast
@@ -217,6 +217,17 @@ lapseTurn now u = pick (leb (u .deadline) now) (lapseBy u (u .stage)) (Keeps u)
 abbrev pub tickTurn : ℕ → Unicast → Turn Unicast
 tickTurn now u = lapseTurn now (withStage u (requeued now (u .stage)))
 
+abbrev pub retries : ℕ → Stage → Bool
+retries now Queued = false
+retries now (Transmitting k) = false
+retries now (Retrying at) = leb at now
+retries now AwaitingPoll = false
+retries now AwaitingApsAck = false
+
+-- what a tick may change: the deadline has come, or a retry is due; every other send rests
+abbrev pub stirs : ℕ → Unicast → Bool
+stirs now u = leb (u .deadline) now || retries now (u .stage)
+
 -- ---- under which addresses a device polls
 
 abbrev pub isShort : ℕ → Opt16 → Bool
@@ -233,11 +244,8 @@ under eui nwk (Short n) = isShort n nwk
 under eui nwk (Extended n) = isLong n eui
 
 -- awaiting and unexpired, under either address
-abbrev pub awaitsHead : Opt64 → Opt16 → ℕ → UnicastHead → Bool
-awaitsHead eui nwk now h = isAwaiting (h .stage) && (ltb now (h .deadline) && under eui nwk (h .«poll_address»))
-
 abbrev pub awaits : Opt64 → Opt16 → ℕ → Unicast → Bool
-awaits eui nwk now u = awaitsHead eui nwk now (unicastHead u)
+awaits eui nwk now u = isAwaiting (u .stage) && (ltb now (u .deadline) && under eui nwk (u .«poll_address»))
 
 -- ---- drop, cancel, copies
 
@@ -299,9 +307,8 @@ sentCopyHead i h = copiesBy i (h .«copy_of») && isSending (h .stage)
 abbrev pub sentCopy : ℕ → Unicast → Bool
 sentCopy i u = sentCopyHead i (unicastHead u)
 
--- what a scan seeks
+-- what a scan by head seeks
 abbrev pub soughtHead : Sought → UnicastHead → Bool
-soughtHead (Polled eui nwk now) h = awaitsHead eui nwk now h
 soughtHead (Pending a) h = pendsHead a h
 soughtHead (Beside i a) h = besideHead i a h
 soughtHead (SentCopy i) h = sentCopyHead i h

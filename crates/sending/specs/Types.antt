@@ -32,7 +32,7 @@ pub use Rattle.sending.specs.declared.Due.the-variants.{Leave, Requeue, 
 pub use Rattle.sending.specs.declared.Which.{Which}
 pub use Rattle.sending.specs.declared.Which.the-variants.{Lapsed, Dropped, CopyOf}
 pub use Rattle.sending.specs.declared.Sought.{Sought}
-pub use Rattle.sending.specs.declared.Sought.the-variants.{Polled, Pending, Beside, SentCopy}
+pub use Rattle.sending.specs.declared.Sought.the-variants.{Pending, Beside, SentCopy}
 pub use Rattle.sending.specs.declared.Best.{Best}
 pub use Rattle.sending.specs.declared.Best.the-variants.{NoneReady, Ready}
 pub use Rattle.sending.specs.declared.Loan.{Loan}

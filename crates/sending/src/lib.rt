@@ -29,10 +29,8 @@ pub enum Which {
     CopyOf(u32),
 }
 
-// What a scan seeks: a frame for a poll at a time under either address, one pending for an address, one besides a send, or a
-// broadcast's copy in the radio.
+// What a scan by head seeks: a send pending for an address, one besides a send, or a broadcast's copy in the radio.
 pub enum Sought {
-    Polled(Opt64, Opt16, u64),
     Pending(Address),
     Beside(u32, Address),
     SentCopy(u32),

@@ -118,6 +118,32 @@ pub fn confirm(w: &[u64; 320], i: usize) -> Confirm
     codes::confirm_of(w[k + 8], w[k + 9])
 }
 
+// The stage of the record at a place.
+pub fn stage(w: &[u64; 320], i: usize) -> Stage
+    requires { ⌜ i < 32 ⌝ }
+    ensures { λ r. ⌜ r ≡ getD (rowsOf unicastTable (now (w .entry))) i blankUnicast .stage ⌝ }
+{
+    let k = i * 10;
+    codes::stage_of(w[k + 6] % 8, w[k + 4])
+}
+
+// The deadline of the record at a place.
+pub fn deadline(w: &[u64; 320], i: usize) -> u64
+    requires { ⌜ i < 32 ⌝ }
+    ensures { λ r. ⌜ r ≡ getD (rowsOf unicastTable (now (w .entry))) i blankUnicast .deadline ⌝ }
+{
+    w[i * 10 + 3]
+}
+
+// The address that the record at a place is polled under.
+pub fn address(w: &[u64; 320], i: usize) -> Address
+    requires { ⌜ i < 32 ⌝ }
+    ensures { λ r. ⌜ r ≡ getD (rowsOf unicastTable (now (w .entry))) i blankUnicast .«poll_address» ⌝ }
+{
+    let k = i * 10;
+    codes::address_of(w[k + 6] / 8 % 4, w[k + 5])
+}
+
 fn tags_of(u: Unicast) -> u64
     ensures { λ r. ⌜ UnicastTagged u r ⌝ }
 {

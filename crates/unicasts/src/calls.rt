@@ -13,7 +13,6 @@ use rows::Inserted;
 use rows::Place;
 use sending::Due;
 use sending::Loan;
-use sending::Sought;
 use sending::UnicastTurn;
 use sending::Which;
 ghost use mathlib.Core.Path.{_≡_};
@@ -109,7 +108,7 @@ pub fn poll(w: &mut [u64; 320], n: usize, eui: Opt64, nwk: Opt16, clock: u64) ->
     requires { ⌜ Held unicastTable (now w) n ⌝ }
     ensures { λ r. ⌜ PolledOne eui nwk clock (now (w .entry)) n (now (w .exit)) r ⌝ }
 {
-    match scanning::asks::first_such(w, n, Sought::Polled(eui, nwk, clock)) {
+    match scanning::asks::first_awaited(w, n, eui, nwk, clock) {
         Place::Nowhere => false,
         Place::Here(i) => {
             let u = tables::unicast_rows::load(w, i);
@@ -248,13 +247,16 @@ fn sweep(w: &mut [u64; 320], sends: usize, told: &mut [u64; 560], at: usize, whi
     Counts { sends: n, told: m }
 }
 
-// Retries that are due are queued, and what has lapsed fails.
+// Retries that are due are queued, and what has lapsed fails. Most ticks find every send at rest: then none is given its turn.
 pub fn tick(w: &mut [u64; 320], n: usize, told: &mut [u64; 560], m: usize, clock: u64) -> Counts
     requires { ⌜ Held unicastTable (now w) n ⌝ }
     requires { ⌜ m + n * 2 ≤ 112 ⌝ }
     ensures { λ r. ⌜ Swept unicastTable unicastEntry (tickTurn clock) (now (w .entry)) n (now (told .entry)) m (now (w .exit)) (r .sends) (now (told .exit)) (r .told) ⌝ }
 {
-    sweep(w, n, told, m, Which::Lapsed(clock))
+    if scanning::asks::any_stirs(w, n, clock) {
+        return sweep(w, n, told, m, Which::Lapsed(clock));
+    }
+    Counts { sends: n, told: m }
 }
 
 // A device is no child any more: what awaits its poll fails.

@@ -2,20 +2,17 @@ use Rattle.rows.proofs.Promises.{fold-start, fold-turn, fold-end}
 use Rattle.rows.specs.Lists.{fold}
 use lib.ListN.{drop}
 use Rattle.sending.specs.Lists.{bestStep}
-use Rattle.sending.specs.Rules.{bestHead}
-use Rattle.sending.specs.Types.{UnicastHead}
 use Rattle.sending.specs.declared.Best.the-variants.{NoneReady}
 use Rattle.scanning.proofs.Scans.{sends}
 use Prim.Native.Nat.{_-_, _≤_}
 use native.Mathlib.Omega.{arith}
-use mathlib.Core.Path.{_≡_, ap, _∙_}
+use mathlib.Core.Path.{_≡_, _∙_}
 use borrow.Author.Needs.{needs}
 use Rattle.scanning.proofs.asks.best_queued.Statement.{statement}
 use Rattle.scanning.proofs.asks.best_queued.Tie as tie
 use Rattle.scanning.proofs.asks.best_queued.Reads as reads
 use Rattle.scanning.proofs.asks.best_queued.Lts as lts
-use Rattle.tables.proofs.unicast_rows.head.Reads as head-reads
-use Rattle.asking.proofs.rules.best_with.Reads as best-with-reads
+use Rattle.scanning.proofs.asks.best_at.Reads as best-at-reads
 
 abbrev Inv-loop : tie.InvT-loop
 Inv-loop w n clock best₀ i₀ best i = (i ≤ n) × (best ≡ fold (bestStep clock) NoneReady (drop i (sends w n)))
@@ -26,14 +23,11 @@ abbrev μ-loop : tie.MeasureT-loop
 loop-holds : tie.Need-loop-holds Inv-loop μ-loop
 loop-holds c = let s = c in (omega arith, fold-start (s .pre) (bestStep (s .args .clock)) NoneReady)
 
-sub-head : tie.Need-sub-head Inv-loop μ-loop
-sub-head c = search needs
+sub-best-at : tie.Need-sub-best-at Inv-loop μ-loop
+sub-best-at c = search needs
 
-head-requires : tie.Need-head-requires Inv-loop μ-loop
-head-requires c κs = omega (arith, c .before .before .pre .within)
-
-best-with-requires : tie.Need-best-with-requires Inv-loop μ-loop
-best-with-requires c κs = search needs
+best-at-requires : tie.Need-best-at-requires Inv-loop μ-loop
+best-at-requires c κs = omega (arith, c .before .before .pre .within)
 
 sub-i : tie.Need-sub-i Inv-loop μ-loop
 sub-i c = search needs
@@ -43,10 +37,10 @@ loop-less c = search needs
 
 loop-again : tie.Need-loop-again Inv-loop μ-loop
 loop-again c =
-    let s = c .before .before .before .before in
-    let at = c .before .before .before .loop in (
+    let s = c .before .before .before in
+    let at = c .before .before .loop in (
       omega arith,
-      c .best-with .ensures ∙ ap (λ (h : UnicastHead). bestHead (s .args .clock) h (at .best)) (c .before .head .ensures)
+      c .best-at .ensures
           ∙ fold-turn (s .pre) (bestStep (s .args .clock)) NoneReady (at .i) (at .best) (omega arith) (omega arith) (at .inv .1),
     )
 
@@ -62,9 +56,8 @@ best-queued-spec =
     Inv-loop
     μ-loop
     loop-holds
-    sub-head
-    head-requires
-    best-with-requires
+    sub-best-at
+    best-at-requires
     sub-i
     loop-less
     loop-again
