@@ -108,6 +108,22 @@ pub fn schedule(w: &[u64; 112], i: usize) -> Schedule
     codes::schedule_of(tags / 128 % 4, tags / 512 % 256, w[k + 5], w[k + 4])
 }
 
+// The state of the copy of the record at a place.
+pub fn copy(w: &[u64; 112], i: usize) -> CopyState
+    requires { ⌜ i < 16 ⌝ }
+    ensures { λ r. ⌜ r ≡ getD (rowsOf broadcastTable (now (w .entry))) i blankBroadcast .copy ⌝ }
+{
+    codes::copy_of(w[i * 7 + 6] / 8 % 4)
+}
+
+// The deadline of the record at a place.
+pub fn deadline(w: &[u64; 112], i: usize) -> u64
+    requires { ⌜ i < 16 ⌝ }
+    ensures { λ r. ⌜ r ≡ getD (rowsOf broadcastTable (now (w .entry))) i blankBroadcast .deadline ⌝ }
+{
+    w[i * 7 + 3]
+}
+
 fn tags_of(b: Broadcast) -> u64
     ensures { λ r. ⌜ BroadcastTagged b r ⌝ }
 {
