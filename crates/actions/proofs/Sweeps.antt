@@ -1,5 +1,5 @@
 -- How code gives every record its turn: place by place, a record that stays is stored or left, a settled one is taken out and told. And how it gives the first
--- with a test its turn. Over any kind of table whose records have an entry. Assumes nothing.
+-- with a test its turn, and that a sweep in which every record rests does nothing. Over any kind of table whose records have an entry. Assumes nothing.
 use Prim.Native.Nat.{ℕ, suc, _+_, _-_, _*_, _≤_, _<_}
 use native.Mathlib.Omega.{arith}
 use native.Mathlib.Nat.{mul-suc}
@@ -13,9 +13,11 @@ use Rattle.records.specs.declared.Opt16.{Opt16}
 use Rattle.records.specs.declared.Verdict.{Verdict}
 use Rattle.records.specs.declared.Entry.{Entry}
 use Rattle.records.specs.declared.Action.{Action}
+use Rattle.records.specs.Pick.{pick}
+use Rattle.records.proofs.Cases.{never}
 use Rattle.rows.specs.Lists.{removeAt}
 use Rattle.rows.specs.Tables.{Table, rowsOf, live, wordsFor, Held, Holds}
-use Rattle.rows.specs.Moves.{Turn, kept, told, each, atFirst, firstAt, placed, eachTold, atFirstTold}
+use Rattle.rows.specs.Moves.{Turn, kept, told, each, atFirst, firstAt, anyOf, placed, eachTold, atFirstTold}
 use Rattle.rows.specs.Moves.Turn.{Keeps, HandsOff, Settles}
 use Rattle.rows.proofs.Promises.{held-length, held-at, eachFrom, toldFrom, each-stays, each-goes, each-end, told-turn, told-stored, told-removed, told-end, first-found, first-missed, told-found, told-missed}
 use Rattle.actions.specs.Told.{Told}
@@ -118,6 +120,35 @@ module _ {A : Type 0} {t : Table A} {entry : A → Entry} {f : A → Turn A} {ws
         let d : s .done ≡ eachTold entry f (live t ws₀ n₀) =
         sym (append-nil (s .done)) ∙ ap (λ (a : List Action). s .done ++ a) (sym (told-end entry f i (live t ws n) b)) ∙ s .rest in
         record { table = record { is = s .held .words ∙ ap (wordsFor t) r; live-is = r; held = s .held }; tells = rw (← d) (s .tells) }
+
+-- ---- no record is stirred
+
+neither : (b r : Bool) → pick b true r ≡ false → (b ≡ false) × (r ≡ false)
+neither true r e = never (sym e)
+neither false r e = (refl, e)
+
+module _ {A : Type 0} (f : A → Turn A) (q : A → Bool) (rests : (x : A) → q x ≡ false → f x ≡ Keeps x) where
+  each-none : (xs : List A) → anyOf q xs ≡ false → each f xs ≡ xs
+  each-none [] e = refl
+  each-none (x ∷ xs) e =
+      let d = neither (q x) (anyOf q xs) e in
+      ap (λ (y : Turn A). kept y ++ each f xs) (rests x (d .0)) ∙ ap (λ (l : List A). x ∷ l) (each-none xs (d .1))
+
+  quiet-none : (entry : A → Entry) (xs : List A) → anyOf q xs ≡ false → eachTold entry f xs ≡ []
+  quiet-none entry [] e = refl
+  quiet-none entry (x ∷ xs) e =
+      let d = neither (q x) (anyOf q xs) e in
+      ap (λ (y : Turn A). told (entry x) y ++ eachTold entry f xs) (rests x (d .0)) ∙ quiet-none entry xs (d .1)
+
+-- no record passes the test, and what does not pass it stays as it is: a sweep changes no word and tells nothing
+pub swept-none : {A : Type 0} {t : Table A} {entry : A → Entry} {f : A → Turn A} (q : A → Bool) → ((x : A) → q x ≡ false → f x ≡ Keeps x) → {ws : List ℕ} {n : ℕ}
+    {buf : List ℕ} {m : ℕ} → Held t ws n → anyOf q (live t ws n) ≡ false → Swept t entry f ws n buf m ws n buf m
+swept-none {A} {t} {entry} {f} q rests {ws} {n} {buf} {m} h e =
+    let r : each f (live t ws n) ≡ live t ws n = each-none f q rests (live t ws n) e in
+    record {
+      table = record { is = h .words ∙ ap (wordsFor t) (sym r); live-is = sym r; held = h };
+      tells = rw (quiet-none f q rests entry (live t ws n) e) (told-none m buf);
+    }
 
 -- ---- the first with a test
 
