@@ -1,3 +1,4 @@
 pub mod Plays
 pub mod Found
 pub mod Ones
+pub mod Places

@@ -209,8 +209,8 @@ fn tick_at(
     play(w, n, told, m, i, u, t)
 }
 
-// Copies that are due are queued; what is over or past its deadline is settled.
-pub fn tick(
+// What time does to every broadcast, place by place.
+fn tick_each(
     w: &mut [u64; 112],
     sends: usize,
     told: &mut [u64; 560],
@@ -236,6 +236,28 @@ pub fn tick(
         }
     }
     Counts { sends: n, told: m }
+}
+
+// Copies that are due are queued; what is over or past its deadline is settled. Most ticks find every broadcast at rest: then none is
+// given its turn.
+pub fn tick(
+    w: &mut [u64; 112],
+    sends: usize,
+    told: &mut [u64; 560],
+    at: usize,
+    clock: u64,
+) -> Counts
+    requires { ⌜ Held broadcastTable (now w) sends ⌝ }
+    requires { ⌜ at + sends * 2 ≤ 112 ⌝ }
+    ensures { λ r. ⌜ Swept broadcastTable broadcastEntry (tickTurn clock) (now (w .entry)) sends (now (told .entry)) at (now (w .exit)) (r .sends) (now (told .exit)) (r .told) ⌝ }
+{
+    if crate::asks::any_stirs(w, sends, clock) {
+        return tick_each(w, sends, told, at, clock);
+    }
+    Counts {
+        sends: sends,
+        told: at,
+    }
 }
 
 // The table is emptied.

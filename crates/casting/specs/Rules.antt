@@ -185,12 +185,27 @@ stirsBy now h CopyTransmitting = false
 abbrev pub stirsHead : ℕ → BroadcastHead → Bool
 stirsHead now h = stirsBy now h (h .copy)
 
--- it is queued, and its deadline has not come
-abbrev pub readyHead : ℕ → BroadcastHead → Bool
-readyHead now h = pick (isQueued (h .copy)) (ltb now (h .deadline)) false
+-- the next attempt of a repeating one has come
+abbrev pub attemptDue : ℕ → Schedule → Bool
+attemptDue now Once = false
+attemptDue now (PassiveAck k n t) = leb t now
+attemptDue now (FixedInterval i n t) = leb t now
+
+abbrev pub copyDue : ℕ → Schedule → CopyState → Bool
+copyDue now s Idle = attemptDue now s
+copyDue now s CopyQueued = false
+copyDue now s CopyTransmitting = false
+
+-- what a tick may change: the deadline has come, in the radio or not, or an idle one's next attempt has; every other one rests
+abbrev pub mayStir : ℕ → Broadcast → Bool
+mayStir now b = leb (b .deadline) now || copyDue now (b .schedule) (b .copy)
+
+-- a copy that is queued, and whose deadline d has not come
+abbrev pub readyBy : ℕ → CopyState → ℕ → Bool
+readyBy now c d = pick (isQueued c) (ltb now d) false
 
 abbrev pub ready : ℕ → Broadcast → Bool
-ready now b = readyHead now (broadcastHead b)
+ready now b = readyBy now (b .copy) (b .deadline)
 
 -- the better of one with this id and rank, and the best of those behind it: these have higher ids
 abbrev pub better : ℕ → ℕ → Best → Best
@@ -198,7 +213,7 @@ better id rank NoBest = BestIs id rank
 better id rank (BestIs j s) = pick (leb s rank) (BestIs id rank) (BestIs j s)
 
 abbrev pub bestHead : ℕ → BroadcastHead → Best → Best
-bestHead now h o = pick (readyHead now h) (better (h .id) (rankOf (h .priority)) o) o
+bestHead now h o = pick (readyBy now (h .copy) (h .deadline)) (better (h .id) (rankOf (h .priority)) o) o
 
 -- it is repeated until the quorum for that key is heard
 abbrev pub keyedBy : QuorumKey → Schedule → Bool

@@ -1,4 +1,4 @@
-// What a scan asks of one broadcast, by its head.
+// What a scan asks of one broadcast, by its head or by a part of it.
 use crate::Awaited;
 use crate::Best;
 use records::CopyState;
@@ -7,7 +7,7 @@ use records::QuorumKey;
 use records::Schedule;
 use tables::broadcast_rows::BroadcastHead;
 ghost use mathlib.Core.Path.{_≡_};
-ghost use Rattle.casting.specs.Rules.{attemptBy, wakeHead, stirsHead, readyHead, better, bestHead, keyedBy, awaitedHead};
+ghost use Rattle.casting.specs.Rules.{attemptBy, wakeHead, stirsHead, attemptDue, readyBy, better, keyedBy, awaitedHead};
 
 fn sooner_attempt(deadline: u64, s: Schedule) -> u64
     ensures { λ r. ⌜ r ≡ attemptBy deadline s ⌝ }
@@ -68,18 +68,38 @@ pub fn stirs(h: BroadcastHead, clock: u64) -> bool
     }
 }
 
-fn is_ready(h: BroadcastHead, clock: u64) -> bool
-    ensures { λ r. ⌜ r ≡ readyHead clock h ⌝ }
+// Whether the next attempt has come.
+pub fn attempt_due(s: Schedule, clock: u64) -> bool
+    ensures { λ r. ⌜ r ≡ attemptDue clock s ⌝ }
 {
-    let c = h.copy;
+    match s {
+        Schedule::Once => false,
+        Schedule::PassiveAck {
+            key: _,
+            copies_remaining: _,
+            next_attempt,
+        } => next_attempt <= clock,
+        Schedule::FixedInterval {
+            interval: _,
+            copies_remaining: _,
+            next_attempt,
+        } => next_attempt <= clock,
+    }
+}
+
+// Whether a broadcast in this state is queued, and its deadline has not come.
+pub fn is_ready(c: CopyState, deadline: u64, clock: u64) -> bool
+    ensures { λ r. ⌜ r ≡ readyBy clock c deadline ⌝ }
+{
     match c {
         CopyState::Idle => false,
-        CopyState::CopyQueued => clock < h.deadline,
+        CopyState::CopyQueued => clock < deadline,
         CopyState::CopyTransmitting => false,
     }
 }
 
-fn better_of(id: u32, rank: u8, o: Best) -> Best
+// The better of one with this id and rank, and the best of those with higher ids.
+pub fn better_of(id: u32, rank: u8, o: Best) -> Best
     ensures { λ r. ⌜ r ≡ better id rank o ⌝ }
 {
     match o {
@@ -91,17 +111,6 @@ fn better_of(id: u32, rank: u8, o: Best) -> Best
             Best::BestIs(j, s)
         }
     }
-}
-
-// The better of it and the best of those with higher ids.
-pub fn best(h: BroadcastHead, clock: u64, o: Best) -> Best
-    ensures { λ r. ⌜ r ≡ bestHead clock h o ⌝ }
-{
-    if is_ready(h, clock) {
-        let p = h.priority;
-        return better_of(h.id, records::priorities::rank(p), o);
-    }
-    o
 }
 
 // Whether it is repeated until the quorum for that key is heard.

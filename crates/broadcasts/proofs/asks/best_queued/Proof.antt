@@ -1,11 +1,10 @@
-use Rattle.casting.specs.Rules.{bestHead, bestStep, bestOf}
-use Rattle.casting.specs.Types.{BroadcastHead}
+use Rattle.casting.specs.Rules.{bestStep, bestOf}
 use Rattle.casting.specs.declared.Best.the-variants.{NoBest}
 use Rattle.rows.proofs.Promises.{fold-start, fold-turn, fold-end}
 use Rattle.tables.specs.Layouts.{broadcastTable}
 use Rattle.rows.specs.Tables.{live}
 use lib.ListN.{drop}
-use mathlib.Core.Path.{_≡_, ap, _∙_}
+use mathlib.Core.Path.{_≡_, _∙_}
 use native.Mathlib.Omega.{arith}
 use Prim.Native.Nat.{_≤_}
 use borrow.Author.Needs.{needs}
@@ -13,8 +12,7 @@ use Rattle.broadcasts.proofs.asks.best_queued.Statement.{statement}
 use Rattle.broadcasts.proofs.asks.best_queued.Tie as tie
 use Rattle.broadcasts.proofs.asks.best_queued.Reads as reads
 use Rattle.broadcasts.proofs.asks.best_queued.Lts as lts
-use Rattle.casting.proofs.heads.best.Reads as best-reads
-use Rattle.tables.proofs.broadcast_rows.head.Reads as head-reads
+use Rattle.broadcasts.proofs.asks.best_at.Reads as best-at-reads
 
 abbrev Inv-loop : tie.InvT-loop
 Inv-loop w n clock best₀ i₀ best i = (i ≤ n) × (best ≡ bestOf clock (drop i (live broadcastTable w n)))
@@ -25,14 +23,11 @@ abbrev μ-loop : tie.MeasureT-loop
 loop-holds : tie.Need-loop-holds Inv-loop μ-loop
 loop-holds c = (omega arith, fold-start (c .pre) (bestStep (c .args .clock)) NoBest)
 
-sub-head : tie.Need-sub-head Inv-loop μ-loop
-sub-head c = search needs
+sub-best-at : tie.Need-sub-best-at Inv-loop μ-loop
+sub-best-at c = search needs
 
-head-requires : tie.Need-head-requires Inv-loop μ-loop
-head-requires c κs = omega (arith, c .before .before .pre .within)
-
-best-requires : tie.Need-best-requires Inv-loop μ-loop
-best-requires c κs = search needs
+best-at-requires : tie.Need-best-at-requires Inv-loop μ-loop
+best-at-requires c κs = omega (arith, c .before .before .pre .within)
 
 sub-i : tie.Need-sub-i Inv-loop μ-loop
 sub-i c = search needs
@@ -42,10 +37,10 @@ loop-less c = search needs
 
 loop-again : tie.Need-loop-again Inv-loop μ-loop
 loop-again c =
-    let s = c .before .before .before .before in
-    let at = c .before .before .before .loop in (
+    let s = c .before .before .before in
+    let at = c .before .before .loop in (
       omega arith,
-      c .best .ensures ∙ ap (λ (h : BroadcastHead). bestHead (s .args .clock) h (at .best)) (c .before .head .ensures)
+      c .best-at .ensures
           ∙ fold-turn (s .pre) (bestStep (s .args .clock)) NoBest (at .i) (at .best) (omega arith) (omega arith) (at .inv .1),
     )
 
@@ -61,9 +56,8 @@ best-queued-spec =
     Inv-loop
     μ-loop
     loop-holds
-    sub-head
-    head-requires
-    best-requires
+    sub-best-at
+    best-at-requires
     sub-i
     loop-less
     loop-again
