@@ -3,13 +3,16 @@ use Prim.Native.Nat.{ℕ}
 use mathlib.Core.List.{List}
 use Rattle.fields.specs.Bytes.{number}
 use Rattle.fields.specs.Parts.{addressAt, keyAt, opt16By, opt64By, resultBy, lenderBy}
+use Rattle.records.specs.declared.Settings.{Settings}
 use Rattle.events.specs.Types.{Absent, Short, Extended, Read16, Is16, Wrong16, Read64, Is64, Wrong64, ReadAddress, IsAddress, WrongAddress, ReadKey, IsKey, WrongKey, ReadResult, IsResult, WrongResult, ReadLender, IsLender, WrongLender, Event, OnSettings, OnDequeue, OnReport, OnPoll, OnAck, OnRetry, OnFail, OnDelivered, OnDrop, OnCancel, OnTick, OnPair, OnHasUnrouted, OnHasAwaiting, Malformed}
 
 -- 1: handoff 4, persistence 4, retries 1, attempts 1
+abbrev pub settingsIn : List ℕ → Settings
+settingsIn b =
+    record { «handoff_timeout» = number 4 0 b; «persistence_time» = number 4 4 b; «unicast_retries» = number 1 8 b; «discovery_attempts» = number 1 9 b }
+
 unfoldable pub settingsOf : List ℕ → Event
-settingsOf b =
-    OnSettings
-    (record { «handoff_timeout» = number 4 0 b; «persistence_time» = number 4 4 b; «unicast_retries» = number 1 8 b; «discovery_attempts» = number 1 9 b })
+settingsOf b = OnSettings (settingsIn b)
 
 -- 6: now 8
 unfoldable pub dequeueOf : List ℕ → Event

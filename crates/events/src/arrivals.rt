@@ -65,7 +65,7 @@ pub(crate) fn unicast_at(b: &[u8], at: usize) -> ReadUnicast
     unicast_with(frame, waiter, hop, level, address, settling)
 }
 
-pub(crate) fn decode_unicast(b: &[u8]) -> Event
+pub fn decode_unicast(b: &[u8]) -> Event
     requires { ⌜ 43 ≤ length (now b) ⌝ }
     ensures { λ r. ⌜ r ≡ unicastOf (now (b .entry)) ⌝ }
 {
@@ -76,7 +76,7 @@ pub(crate) fn decode_unicast(b: &[u8]) -> Event
     }
 }
 
-pub(crate) fn decode_copy(b: &[u8]) -> Event
+pub fn decode_copy(b: &[u8]) -> Event
     requires { ⌜ 47 ≤ length (now b) ⌝ }
     ensures { λ r. ⌜ r ≡ copyOf (now (b .entry)) ⌝ }
 {
@@ -118,7 +118,7 @@ pub(crate) fn unrouted_with(
     }
 }
 
-pub(crate) fn decode_unrouted(b: &[u8]) -> Event
+pub fn decode_unrouted(b: &[u8]) -> Event
     requires { ⌜ 34 ≤ length (now b) ⌝ }
     ensures { λ r. ⌜ r ≡ unroutedOf (now (b .entry)) ⌝ }
 {
@@ -159,7 +159,7 @@ pub(crate) fn broadcast_with(
     }
 }
 
-pub(crate) fn decode_broadcast(b: &[u8]) -> Event
+pub fn decode_broadcast(b: &[u8]) -> Event
     requires { ⌜ 34 ≤ length (now b) ⌝ }
     ensures { λ r. ⌜ r ≡ broadcastOf (now (b .entry)) ⌝ }
 {

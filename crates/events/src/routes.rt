@@ -137,7 +137,7 @@ fn entries_right(b: &[u8], count: usize) -> bool
     true
 }
 
-pub(crate) fn decode_route(b: &[u8]) -> Event
+pub fn decode_route(b: &[u8]) -> Event
     requires { ⌜ 235 ≤ length (now b) ⌝ }
     ensures { λ r. ⌜ r ≡ routeOf (now (b .entry)) ⌝ }
 {

@@ -22,25 +22,32 @@ use records::Settings;
 ghost use mathlib.Core.Path.{_≡_};
 ghost use Prim.Native.Nat.{_≤_};
 ghost use lib.ListN.{length};
-ghost use Rattle.events.specs.Signals.{settingsOf, dequeueOf, reportWith, reportOf, pollWith, pollOf, ackOf, retryOf, failOf, deliveredOf, dropOf, cancelOf, tickOf, pairOf, hasUnroutedOf, awaitingEvent, hasAwaitingOf};
+ghost use Rattle.events.specs.Signals.{settingsIn, settingsOf, dequeueOf, reportWith, reportOf, pollWith, pollOf, ackOf, retryOf, failOf, deliveredOf, dropOf, cancelOf, tickOf, pairOf, hasUnroutedOf, awaitingEvent, hasAwaitingOf};
 
-pub(crate) fn decode_settings(b: &[u8]) -> Event
+pub fn settings_in(b: &[u8]) -> Settings
     requires { ⌜ 10 ≤ length (now b) ⌝ }
-    ensures { λ r. ⌜ r ≡ settingsOf (now (b .entry)) ⌝ }
+    ensures { λ r. ⌜ r ≡ settingsIn (now (b .entry)) ⌝ }
 {
     let handoff_timeout = u32_at(b, 0);
     let persistence_time = u32_at(b, 4);
     let unicast_retries = byte_at(b, 8);
     let discovery_attempts = byte_at(b, 9);
-    Event::OnSettings(Settings {
+    Settings {
         handoff_timeout,
         persistence_time,
         unicast_retries,
         discovery_attempts,
-    })
+    }
 }
 
-pub(crate) fn decode_dequeue(b: &[u8]) -> Event
+pub fn decode_settings(b: &[u8]) -> Event
+    requires { ⌜ 10 ≤ length (now b) ⌝ }
+    ensures { λ r. ⌜ r ≡ settingsOf (now (b .entry)) ⌝ }
+{
+    Event::OnSettings(settings_in(b))
+}
+
+pub fn decode_dequeue(b: &[u8]) -> Event
     requires { ⌜ 8 ≤ length (now b) ⌝ }
     ensures { λ r. ⌜ r ≡ dequeueOf (now (b .entry)) ⌝ }
 {
@@ -75,7 +82,7 @@ pub(crate) fn report_with(
     }
 }
 
-pub(crate) fn decode_report(b: &[u8]) -> Event
+pub fn decode_report(b: &[u8]) -> Event
     requires { ⌜ 24 ≤ length (now b) ⌝ }
     ensures { λ r. ⌜ r ≡ reportOf (now (b .entry)) ⌝ }
 {
@@ -102,7 +109,7 @@ pub(crate) fn poll_with(clock: u64, extended: Read64, short: Read16) -> Event
     }
 }
 
-pub(crate) fn decode_poll(b: &[u8]) -> Event
+pub fn decode_poll(b: &[u8]) -> Event
     requires { ⌜ 20 ≤ length (now b) ⌝ }
     ensures { λ r. ⌜ r ≡ pollOf (now (b .entry)) ⌝ }
 {
@@ -112,7 +119,7 @@ pub(crate) fn decode_poll(b: &[u8]) -> Event
     poll_with(clock, extended, short)
 }
 
-pub(crate) fn decode_ack(b: &[u8]) -> Event
+pub fn decode_ack(b: &[u8]) -> Event
     requires { ⌜ 10 ≤ length (now b) ⌝ }
     ensures { λ r. ⌜ r ≡ ackOf (now (b .entry)) ⌝ }
 {
@@ -122,21 +129,21 @@ pub(crate) fn decode_ack(b: &[u8]) -> Event
     }
 }
 
-pub(crate) fn decode_retry(b: &[u8]) -> Event
+pub fn decode_retry(b: &[u8]) -> Event
     requires { ⌜ 2 ≤ length (now b) ⌝ }
     ensures { λ r. ⌜ r ≡ retryOf (now (b .entry)) ⌝ }
 {
     Event::OnRetry(u16_at(b, 0))
 }
 
-pub(crate) fn decode_fail(b: &[u8]) -> Event
+pub fn decode_fail(b: &[u8]) -> Event
     requires { ⌜ 2 ≤ length (now b) ⌝ }
     ensures { λ r. ⌜ r ≡ failOf (now (b .entry)) ⌝ }
 {
     Event::OnFail(u16_at(b, 0))
 }
 
-pub(crate) fn decode_delivered(b: &[u8]) -> Event
+pub fn decode_delivered(b: &[u8]) -> Event
     requires { ⌜ 3 ≤ length (now b) ⌝ }
     ensures { λ r. ⌜ r ≡ deliveredOf (now (b .entry)) ⌝ }
 {
@@ -145,7 +152,7 @@ pub(crate) fn decode_delivered(b: &[u8]) -> Event
     Event::OnDelivered(QuorumKey { src, sequence })
 }
 
-pub(crate) fn decode_drop(b: &[u8]) -> Event
+pub fn decode_drop(b: &[u8]) -> Event
     requires { ⌜ 11 ≤ length (now b) ⌝ }
     ensures { λ r. ⌜ r ≡ dropOf (now (b .entry)) ⌝ }
 {
@@ -158,21 +165,21 @@ pub(crate) fn decode_drop(b: &[u8]) -> Event
 
 // ---- times, the map, and questions
 
-pub(crate) fn decode_cancel(b: &[u8]) -> Event
+pub fn decode_cancel(b: &[u8]) -> Event
     requires { ⌜ 4 ≤ length (now b) ⌝ }
     ensures { λ r. ⌜ r ≡ cancelOf (now (b .entry)) ⌝ }
 {
     Event::OnCancel(u32_at(b, 0))
 }
 
-pub(crate) fn decode_tick(b: &[u8]) -> Event
+pub fn decode_tick(b: &[u8]) -> Event
     requires { ⌜ 8 ≤ length (now b) ⌝ }
     ensures { λ r. ⌜ r ≡ tickOf (now (b .entry)) ⌝ }
 {
     Event::OnTick(u64_at(b, 0))
 }
 
-pub(crate) fn decode_pair(b: &[u8]) -> Event
+pub fn decode_pair(b: &[u8]) -> Event
     requires { ⌜ 10 ≤ length (now b) ⌝ }
     ensures { λ r. ⌜ r ≡ pairOf (now (b .entry)) ⌝ }
 {
@@ -181,7 +188,7 @@ pub(crate) fn decode_pair(b: &[u8]) -> Event
     Event::OnPair(extended, short)
 }
 
-pub(crate) fn decode_has_unrouted(b: &[u8]) -> Event
+pub fn decode_has_unrouted(b: &[u8]) -> Event
     requires { ⌜ 2 ≤ length (now b) ⌝ }
     ensures { λ r. ⌜ r ≡ hasUnroutedOf (now (b .entry)) ⌝ }
 {
@@ -201,7 +208,7 @@ pub(crate) fn awaiting_by(address: ReadAddress) -> Event
     }
 }
 
-pub(crate) fn decode_has_awaiting(b: &[u8]) -> Event
+pub fn decode_has_awaiting(b: &[u8]) -> Event
     requires { ⌜ 9 ≤ length (now b) ⌝ }
     ensures { λ r. ⌜ r ≡ hasAwaitingOf (now (b .entry)) ⌝ }
 {

@@ -27,10 +27,11 @@ use Rattle.replies.proofs.Backs.{told-acts}
 use Rattle.listings.specs.Maps.{keysWith, shortsWith, MapSound, mapFull, pairsAfter, PairPut}
 use Rattle.listings.proofs.Pairings.{pairs-long, take-front}
 use Rattle.exchange.specs.Types.{Counts, Did, Abandoned, Entry, Settings, Resolved, NoPlace, Item, Refused, Done, ShortAddress, ExtendedAddress, Shorts, Longs, Paired, NoPlaceLeft, Pairs, Left, Event, OnSettings, OnUnicast, OnCopy, OnUnrouted, OnBroadcast, OnDequeue, OnReport, OnPoll, OnAck, OnRetry, OnFail, OnRoute, OnDelivered, OnDrop, OnCancel, OnTick, OnAbandon, OnNextWake, OnPair, OnLists, OnHasUnrouted, OnHasAwaiting, Malformed}
-use Rattle.exchange.specs.World.{World, Step, withModel, abandonment, called, listItems, isCall, stepOn, worldOf}
+use Rattle.exchange.specs.World.{World, Step, withModel, abandonment, called, listItems, stepOn, worldOf}
 use Rattle.exchange.specs.Gathered.{listedItems}
 use Rattle.sending.specs.Members.{mapFits}
 use Rattle.exchange.specs.Answering.{Answering}
+use Rattle.exchange.proofs.Arms.{isCall}
 use Rattle.exchange.specs.Turns.{Ready, Turned}
 
 no : false ≡ true → ⊥

@@ -1,8 +1,8 @@
 -- What one event of a trace does: to the send tables, the settings and the address map, and what is answered.
 use Prim.Native.Nat.{ℕ}
-use mathlib.Core.Bool.{Bool, true, false}
+use mathlib.Core.Bool.{Bool, true, false, _||_}
 use mathlib.Core.List.{List, [], _∷_, _++_, map}
-use lib.Dec.{ltb}
+use lib.Dec.{ltb, eqb}
 use lib.ListN.{length, take}
 use Rattle.records.specs.Pick.{pick}
 use Rattle.records.specs.Numbers.{defaultSettings}
@@ -107,31 +107,9 @@ stepOn w (OnHasUnrouted d) rs = made w (HasUnrouted d)
 stepOn w (OnHasAwaiting a) rs = made w (HasAwaiting a)
 stepOn w Malformed rs = record { world = w; items = Refused FieldMalformed ∷ [] }
 
--- one that is handed to the tables as it is; the run sees to the others itself
-abbrev pub isCall : Event → Bool
-isCall (OnSettings s) = false
-isCall (OnUnicast now u) = true
-isCall (OnCopy id now u) = true
-isCall (OnUnrouted now u) = true
-isCall (OnBroadcast now u) = true
-isCall (OnDequeue now) = true
-isCall (OnReport from id frame x now delay) = true
-isCall (OnPoll now eui nwk) = true
-isCall (OnAck k) = true
-isCall (OnRetry d) = true
-isCall (OnFail d) = true
-isCall (OnRoute now d n) = true
-isCall (OnDelivered k) = true
-isCall (OnDrop eui nwk) = true
-isCall (OnCancel id) = true
-isCall (OnTick now) = true
-isCall OnAbandon = false
-isCall OnNextWake = false
-isCall (OnPair x y) = false
-isCall OnLists = false
-isCall (OnHasUnrouted d) = true
-isCall (OnHasAwaiting a) = true
-isCall Malformed = true
+-- a kind that the run sees to itself: settings, abandon, next wake, a pair, the lists; any other is handed to the tables
+abbrev pub isOwn : ℕ → Bool
+isOwn k = eqb k 1 || (eqb k 17 || (eqb k 18 || (eqb k 19 || eqb k 20)))
 
 -- ---- a world in lent arrays
 

@@ -1,19 +1,18 @@
 // One event of a trace: it is applied to the tables, the settings and the address map, all lent, and its answers are written if
 // they fit before the six bytes that are kept for the end.
-use events::Event;
 use listings::maps::Paired;
 use model::Counts;
 use records::Refusal;
 use records::Settings;
 ghost use Prim.Native.Nat.{_+_, _≤_};
 ghost use mathlib.Core.Path.{_≡_};
-ghost use mathlib.Core.Bool.{true};
+ghost use mathlib.Core.Bool.{true, false};
 ghost use mathlib.Core.List.{[]};
 ghost use lib.ListN.{length};
 ghost use Rattle.framing.specs.Kinds.{bodyOf};
 ghost use Rattle.events.specs.Events.{eventOf};
 ghost use Rattle.events.specs.Routes.{resultsIn};
-ghost use Rattle.exchange.specs.World.{worldOf, isCall, stepOn};
+ghost use Rattle.exchange.specs.World.{worldOf, isOwn, stepOn};
 ghost use Rattle.exchange.specs.Turns.{Ready, Turned};
 ghost use Rattle.exchange.specs.Types.{OnAbandon, OnPair};
 
@@ -103,42 +102,23 @@ fn abandon(
     }
 }
 
-// A call of the tables.
-fn call(
-    c: Counts,
-    w: &mut [u64; 320],
-    v: &mut [u64; 112],
-    d: &mut [u64; 32],
-    b: &mut [u64; 112],
-    told: &mut [u64; 560],
-    s: Settings,
-    eui: &mut [u64; 32],
-    nwk: &mut [u16; 32],
-    pairs: usize,
-    out: &mut [u8],
-    at: usize,
-    e: Event,
-    body: &[u8],
-) -> Left
-    requires { ⌜ Ready c (now w) (now v) (now d) (now b) (now eui) (now nwk) pairs (now told) ⌝ }
-    requires { ⌜ at + 6 ≤ length (now out) ⌝ }
-    requires { ⌜ isCall e ≡ true ⌝ }
-    ensures { λ r. ⌜ Turned (stepOn (worldOf c (now (w .entry)) (now (v .entry)) (now (d .entry)) (now (b .entry)) s (now (eui .entry)) (now (nwk .entry)) pairs) e (resultsIn (now (body .entry)))) at (now (out .entry)) (now (w .exit)) (now (v .exit)) (now (d .exit)) (now (b .exit)) (now (eui .exit)) (now (nwk .exit)) (now (told .exit)) (now (out .exit)) r ⌝ }
+// Whether the run sees to a kind itself: settings, abandon, next wake, a pair, the lists.
+pub fn is_own(kind: u8) -> bool
+    ensures { λ r. ⌜ r ≡ isOwn kind ⌝ }
 {
-    let x = steps::apply(c, w, v, d, b, told, s, e, body);
-    let a = x.answer;
-    let wrote = answering::answer(out, at, a, told, x.told);
-    let n = x.counts;
-    Left {
-        counts: n,
-        settings: s,
-        pairs,
-        wrote,
+    match kind {
+        1 => true,
+        17 => true,
+        18 => true,
+        19 => true,
+        20 => true,
+        _ => false,
     }
 }
 
-// A record: the event that its body says. Decoded here and not by the caller, so that no event is ever put together in memory.
-pub fn turn(
+// A record of a kind that is a call of the tables. It and the next are functions of their own, each small enough to be compiled into
+// the run's loop (docs/PERFORMANCE.md).
+pub fn call(
     c: Counts,
     w: &mut [u64; 320],
     v: &mut [u64; 112],
@@ -157,11 +137,47 @@ pub fn turn(
     requires { ⌜ Ready c (now w) (now v) (now d) (now b) (now eui) (now nwk) pairs (now told) ⌝ }
     requires { ⌜ at + 6 ≤ length (now out) ⌝ }
     requires { ⌜ length (now body) ≡ bodyOf kind ⌝ }
+    requires { ⌜ isOwn kind ≡ false ⌝ }
     ensures { λ r. ⌜ Turned (stepOn (worldOf c (now (w .entry)) (now (v .entry)) (now (d .entry)) (now (b .entry)) s (now (eui .entry)) (now (nwk .entry)) pairs) (eventOf kind (now (body .entry))) (resultsIn (now (body .entry)))) at (now (out .entry)) (now (w .exit)) (now (v .exit)) (now (d .exit)) (now (b .exit)) (now (eui .exit)) (now (nwk .exit)) (now (told .exit)) (now (out .exit)) r ⌝ }
 {
-    let e = events::decode::decode(kind, body);
-    match e {
-        Event::OnSettings(x) => {
+    let x = steps::act(c, w, v, d, b, told, s, kind, body);
+    let a = x.answer;
+    let wrote = answering::answer(out, at, a, told, x.told);
+    let n = x.counts;
+    Left {
+        counts: n,
+        settings: s,
+        pairs,
+        wrote,
+    }
+}
+
+// A record of a kind that the run sees to itself.
+pub fn serve(
+    c: Counts,
+    w: &mut [u64; 320],
+    v: &mut [u64; 112],
+    d: &mut [u64; 32],
+    b: &mut [u64; 112],
+    told: &mut [u64; 560],
+    s: Settings,
+    eui: &mut [u64; 32],
+    nwk: &mut [u16; 32],
+    pairs: usize,
+    out: &mut [u8],
+    at: usize,
+    kind: u8,
+    body: &[u8],
+) -> Left
+    requires { ⌜ Ready c (now w) (now v) (now d) (now b) (now eui) (now nwk) pairs (now told) ⌝ }
+    requires { ⌜ at + 6 ≤ length (now out) ⌝ }
+    requires { ⌜ length (now body) ≡ bodyOf kind ⌝ }
+    requires { ⌜ isOwn kind ≡ true ⌝ }
+    ensures { λ r. ⌜ Turned (stepOn (worldOf c (now (w .entry)) (now (v .entry)) (now (d .entry)) (now (b .entry)) s (now (eui .entry)) (now (nwk .entry)) pairs) (eventOf kind (now (body .entry))) (resultsIn (now (body .entry)))) at (now (out .entry)) (now (w .exit)) (now (v .exit)) (now (d .exit)) (now (b .exit)) (now (eui .exit)) (now (nwk .exit)) (now (told .exit)) (now (out .exit)) r ⌝ }
+{
+    match kind {
+        1 => {
+            let x = events::signals::settings_in(body);
             let wrote = answering::answer_done(out, at);
             Left {
                 counts: c,
@@ -170,9 +186,8 @@ pub fn turn(
                 wrote,
             }
         }
-        Event::OnPair(x, y) => pair(c, w, v, d, b, told, s, eui, nwk, pairs, out, at, x, y),
-        Event::OnAbandon => abandon(c, w, v, d, b, told, s, eui, nwk, pairs, out, at),
-        Event::OnNextWake => {
+        17 => abandon(c, w, v, d, b, told, s, eui, nwk, pairs, out, at),
+        18 => {
             let t = lent::ends::next_wake(c, w, v, d, b);
             let wrote = answering::answer_wake(out, at, t);
             Left {
@@ -182,7 +197,12 @@ pub fn turn(
                 wrote,
             }
         }
-        Event::OnLists => {
+        19 => {
+            let x = fields::numbers::u64_at(body, 0);
+            let y = fields::numbers::u16_at(body, 8);
+            pair(c, w, v, d, b, told, s, eui, nwk, pairs, out, at, x, y)
+        }
+        _ => {
             let wrote = lists::answer_lists(out, at, c, w, d, b, eui, nwk, pairs);
             Left {
                 counts: c,
@@ -191,6 +211,5 @@ pub fn turn(
                 wrote,
             }
         }
-        _ => call(c, w, v, d, b, told, s, eui, nwk, pairs, out, at, e, body),
     }
 }

@@ -1,5 +1,6 @@
 -- What one event of a trace does to the send tables, by cases: the effect of its call, a question's answer, or refusal 14.
 use Prim.Native.Nat.{ℕ}
+use mathlib.Core.Path.{_≡_}
 use mathlib.Core.List.{List}
 use mathlib.Core.Option.{Option, none, some}
 use Rattle.rows.specs.Moves.{anyOf}
@@ -62,28 +63,10 @@ callFor s (OnHasUnrouted d) rs = some (HasUnrouted d)
 callFor s (OnHasAwaiting a) rs = some (HasAwaiting a)
 callFor s Malformed rs = none
 
--- which of the three functions has the event's arm: 0 for apply, 1 for signal, 2 for ask
-abbrev pub armIn : Event → ℕ
-armIn (OnSettings x) = 2
-armIn (OnUnicast now u) = 0
-armIn (OnCopy id now u) = 0
-armIn (OnUnrouted now u) = 0
-armIn (OnBroadcast now u) = 0
-armIn (OnDequeue now) = 1
-armIn (OnReport from id frame x now delay) = 0
-armIn (OnPoll now eui nwk) = 1
-armIn (OnAck k) = 1
-armIn (OnRetry d) = 1
-armIn (OnFail d) = 1
-armIn (OnRoute now d n) = 1
-armIn (OnDelivered k) = 1
-armIn (OnDrop eui nwk) = 1
-armIn (OnCancel id) = 1
-armIn (OnTick now) = 1
-armIn OnAbandon = 2
-armIn OnNextWake = 2
-armIn (OnPair eui nwk) = 2
-armIn OnLists = 2
-armIn (OnHasUnrouted d) = 2
-armIn (OnHasAwaiting a) = 2
-armIn Malformed = 2
+-- a kind that the run does not see to itself: none of settings, abandon, next wake, pair and lists
+abbrev pub Plain : ℕ → Type 0
+Plain k = ((((k ≡ 1 → ⊥) × (k ≡ 17 → ⊥)) × (k ≡ 18 → ⊥)) × (k ≡ 19 → ⊥)) × (k ≡ 20 → ⊥)
+
+-- and none of 2 to 9
+abbrev pub Later : ℕ → Type 0
+Later k = (((((((k ≡ 2 → ⊥) × (k ≡ 3 → ⊥)) × (k ≡ 4 → ⊥)) × (k ≡ 5 → ⊥)) × (k ≡ 6 → ⊥)) × (k ≡ 7 → ⊥)) × (k ≡ 8 → ⊥)) × (k ≡ 9 → ⊥)

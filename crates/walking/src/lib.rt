@@ -57,7 +57,34 @@ pub fn walk(trace: &[u8], out: &mut [u8]) -> usize
             Standing::Cut => return end(out, o, 13, at),
             Standing::Record { kind, start, next } => {
                 let body = framing::reader::record_at(trace, start, next);
-                let t = exchange::turn(
+                if exchange::is_own(kind) {
+                    let t = exchange::serve(
+                        c,
+                        &mut w,
+                        &mut v,
+                        &mut d,
+                        &mut b,
+                        &mut told,
+                        s,
+                        &mut eui,
+                        &mut nwk,
+                        pairs,
+                        out,
+                        o,
+                        kind,
+                        body,
+                    );
+                    if t.wrote == 0 {
+                        return end(out, o, 15, at);
+                    }
+                    c = t.counts;
+                    s = t.settings;
+                    pairs = t.pairs;
+                    o = t.wrote;
+                    at = next;
+                    continue;
+                }
+                let t = exchange::call(
                     c,
                     &mut w,
                     &mut v,

@@ -1,3 +1,5 @@
+-- The settings, as an event.
+use mathlib.Core.Path.{ap}
 use Rattle.events.specs.Signals.{settingsOf}
 use Rattle.events.specs.Types.{OnSettings}
 use borrow.Author.Needs.{needs}
@@ -5,26 +7,14 @@ use Rattle.events.proofs.signals.decode_settings.Statement.{statement}
 use Rattle.events.proofs.signals.decode_settings.Tie as tie
 use Rattle.events.proofs.signals.decode_settings.Reads as reads
 use Rattle.events.proofs.signals.decode_settings.Lts as lts
-use Rattle.fields.proofs.numbers.byte_at.Reads as byte-at-reads
-use Rattle.fields.proofs.numbers.u32_at.Reads as u32-at-reads
+use Rattle.events.proofs.signals.settings_in.Reads as settings-in-reads
 
-u32-at-requires : tie.Need-u32-at-requires
-u32-at-requires c κs = search needs
-
-u32-at-requires-2 : tie.Need-u32-at-requires-2
-u32-at-requires-2 c κs = search needs
-
-byte-at-requires : tie.Need-byte-at-requires
-byte-at-requires c κs = search needs
-
-byte-at-requires-2 : tie.Need-byte-at-requires-2
-byte-at-requires-2 c κs = search needs
+settings-in-requires : tie.Need-settings-in-requires
+settings-in-requires c κs = search needs
 
 returns : tie.Need-returns
 unfolding settingsOf
-returns c = λ k. OnSettings (record { «handoff_timeout» = c .before .before .before .u32-at .ensures k; «persistence_time» = c .before .before .u32-at2 .ensures k; «unicast_retries» = c .before .byte-at .ensures k; «discovery_attempts» = c .byte-at2 .ensures k })
+returns c = ap OnSettings (c .settings-in .ensures)
 
 pub decode-settings-spec : {M : Type 1} → statement M
-decode-settings-spec =
-    tie.close
-    (tie.spec u32-at-requires u32-at-requires-2 byte-at-requires byte-at-requires-2 returns)
+decode-settings-spec = tie.close (tie.spec settings-in-requires returns)
