@@ -140,7 +140,7 @@ differs k n h e = no (sym h ∙ ap (λ (m : ℕ). eqb m n) e ∙ same (eqb n n) 
     same true t = refl
     same false t = absurd t
 
-module _ {k : ℕ} (h : isOwn k ≡ false) where
+module _ (k : ℕ) (h : isOwn k ≡ false) where
   not-1 : eqb k 1 ≡ false
   not-1 = or-left (eqb k 1) (eqb k 17 || (eqb k 18 || (eqb k 19 || eqb k 20))) h
 
