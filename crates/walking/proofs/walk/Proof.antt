@@ -1,4 +1,4 @@
--- The records in turn: three ways to an end, the fourth where answers do not fit, and on.
+-- The records in turn: three ways to an end, the fourth where answers do not fit, and on; the last two for either sort of kind.
 use Prim.Native.Nat.{ℕ, _+_, _-_, _≤_, _<_}
 use native.Mathlib.Omega.{arith}
 use mathlib.Core.Path.{_≡_, refl, sym, ap, _∙_}
@@ -28,7 +28,9 @@ use Rattle.tables.proofs.unicast_rows.fresh.Reads as unicast-rows-fresh-reads
 use Rattle.tables.proofs.unrouted_rows.fresh.Reads as unrouted-rows-fresh-reads
 use Rattle.walking.proofs.end.Reads as end-reads
 use Rattle.walking.proofs.no_sends.Reads as no-sends-reads
-use Rattle.exchange.proofs.turn.Reads as turn-reads
+use Rattle.exchange.proofs.call.Reads as call-reads
+use Rattle.exchange.proofs.is_own.Reads as is-own-reads
+use Rattle.exchange.proofs.serve.Reads as serve-reads
 
 abbrev Inv-loop : tie.InvT-loop
 Inv-loop trace out₀ w₀ v₀ d₀ b₀ told₀ eui₀ nwk₀ c₀ s₀ pairs₀ at₀ o₀ out w v d b told eui nwk c s pairs at o =
@@ -158,42 +160,82 @@ record-at-requires c κs =
     let j = p .next-is in
     (omega arith, p .inside)
 
-turn-requires : tie.Need-turn-requires Inv-loop μ-loop
-turn-requires c κs =
-    let k = c .before .before .before .before .before .before .before .before .before .before in
-    let i = c .before .before .before .before .before .before .before .before .before .before .before .before .before .loop .inv in
-    let l = ap length (c .before .before .before .before .before .before .before .before .record-at .ensures) ∙ body-long (trace-of k) (at-of k) (kind-of k) (start-of k) (next-of k) (placed k) in
-    (i .ready, (six-left i, l))
+is-own-requires : tie.Need-is-own-requires Inv-loop μ-loop
+is-own-requires c κs = search needs
+
+serve-requires : tie.Need-serve-requires Inv-loop μ-loop
+serve-requires c κs =
+    let k = c .before .before .before .before .before .before .before .before .before .before .before .before in
+    let i = c .before .before .before .before .before .before .before .before .before .before .before .before .before .before .before .loop .inv in
+    let l = ap length (c .before .before .before .before .before .before .before .before .before .before .record-at .ensures) ∙ body-long (trace-of k) (at-of k) (kind-of k) (start-of k) (next-of k) (placed k) in
+    (i .ready, (six-left i, (l, sym (c .before .before .before .before .before .before .before .before .before .is-own .ensures) ∙ c .before .before .before .before .before .before .before .before .if1 .taken)))
 
 end-requires-4 : tie.Need-end-requires-4 Inv-loop μ-loop
 end-requires-4 c κs =
-    let i = c .before .before .before .before .before .before .before .before .before .before .before .before .before .before .before .before .before .before .before .loop .inv in
+    let i = c .before .before .before .before .before .before .before .before .before .before .before .before .before .before .before .before .before .before .before .before .before .loop .inv in
     let n = i .running .inside in
-    let p = c .before .before .before .before .before .before .before .before .before .before .before .before .before .before .before .before .before .before .before .before .before .before .before .before .before .before .before .before .pre .1 in
+    let p = c .before .before .before .before .before .before .before .before .before .before .before .before .before .before .before .before .before .before .before .before .before .before .before .before .before .before .before .before .before .before .pre .1 in
     let l = six-left i in
-    let k = answering-long (c .before .before .before .before .before .turn .ensures .answers) in
+    let k = answering-long (c .before .before .before .before .before .serve .ensures .answers) in
     (omega arith, omega arith)
 
 same-length-4 : tie.Need-same-length-4 Inv-loop μ-loop
 same-length-4 c =
-    c .before .before .end4 .kept .0 ∙ (answering-long (c .before .before .before .before .before .before .before .before .turn .ensures .answers) ∙ c .before .before .before .before .before .before .before .before .before .before .before .before .before .before .before .before .before .before .before .before .before .before .loop .inv .running .long)
+    c .before .before .end4 .kept .0 ∙ (answering-long (c .before .before .before .before .before .before .before .before .serve .ensures .answers) ∙ c .before .before .before .before .before .before .before .before .before .before .before .before .before .before .before .before .before .before .before .before .before .before .before .before .loop .inv .running .long)
 
 returns-4 : tie.Need-returns-4 Inv-loop μ-loop
 returns-4 c =
-    let k = c .before .before .before .before .before .before .before .before .before .before .before .before .before .before .before .before .before .before .before in
-    walk-full (c .before .before .before .before .before .before .before .before .before .before .before .before .before .before .before .before .before .before .before .before .before .before .loop .inv) (stands k) (stepped (c .before .before .before .before .before .before .before .before .before .before .before .before .before .before .before .before .before)) (c .before .before .before .before .before .before .before .before .turn .ensures) (items-some (world-of k) _ (eventOf (kind-of k) (c .before .before .before .before .before .before .before .before .before .before .before .before .before .before .before .before .before .record-at .result .now))) (c .before .before .before .before .if1 .taken) (c .before .before .end4 .ensures)
+    let k = c .before .before .before .before .before .before .before .before .before .before .before .before .before .before .before .before .before .before .before .before .before in
+    walk-full (c .before .before .before .before .before .before .before .before .before .before .before .before .before .before .before .before .before .before .before .before .before .before .before .before .loop .inv) (stands k) (stepped (c .before .before .before .before .before .before .before .before .before .before .before .before .before .before .before .before .before .before .before)) (c .before .before .before .before .before .before .before .before .serve .ensures) (items-some (world-of k) _ (eventOf (kind-of k) (c .before .before .before .before .before .before .before .before .before .before .before .before .before .before .before .before .before .before .before .record-at .result .now))) (c .before .before .before .before .if2 .taken) (c .before .before .end4 .ensures)
 
 loop-less : tie.Need-loop-less Inv-loop μ-loop
 loop-less c =
-    let p = placed (c .before .before .before .before .before .before .before .before .before .before .before .before .before .before .before .before .before) in
+    let p = placed (c .before .before .before .before .before .before .before .before .before .before .before .before .before .before .before .before .before .before .before) in
     let i = p .inside in
     let j = p .next-is in
     omega arith
 
 loop-again : tie.Need-loop-again Inv-loop μ-loop
 loop-again c =
-    let k = c .before .before .before .before .before .before .before .before .before .before .before .before .before .before .before .before .before in
-    walk-on (c .before .before .before .before .before .before .before .before .before .before .before .before .before .before .before .before .before .before .before .before .loop .inv) (stands k) (stepped (c .before .before .before .before .before .before .before .before .before .before .before .before .before .before .before)) (c .before .before .before .before .before .before .turn .ensures) (c .before .before .if1 .left)
+    let k = c .before .before .before .before .before .before .before .before .before .before .before .before .before .before .before .before .before .before .before in
+    walk-on (c .before .before .before .before .before .before .before .before .before .before .before .before .before .before .before .before .before .before .before .before .before .before .loop .inv) (stands k) (stepped (c .before .before .before .before .before .before .before .before .before .before .before .before .before .before .before .before .before)) (c .before .before .before .before .before .before .serve .ensures) (c .before .before .if2 .left)
+
+call-requires : tie.Need-call-requires Inv-loop μ-loop
+call-requires c κs =
+    let k = c .before .before .before .before .before .before .before .before .before .before .before .before in
+    let i = c .before .before .before .before .before .before .before .before .before .before .before .before .before .before .before .loop .inv in
+    let l = ap length (c .before .before .before .before .before .before .before .before .before .before .record-at .ensures) ∙ body-long (trace-of k) (at-of k) (kind-of k) (start-of k) (next-of k) (placed k) in
+    (i .ready, (six-left i, (l, sym (c .before .before .before .before .before .before .before .before .before .is-own .ensures) ∙ c .before .before .before .before .before .before .before .before .if1 .left)))
+
+end-requires-5 : tie.Need-end-requires-5 Inv-loop μ-loop
+end-requires-5 c κs =
+    let i = c .before .before .before .before .before .before .before .before .before .before .before .before .before .before .before .before .before .before .before .before .before .loop .inv in
+    let n = i .running .inside in
+    let p = c .before .before .before .before .before .before .before .before .before .before .before .before .before .before .before .before .before .before .before .before .before .before .before .before .before .before .before .before .before .before .pre .1 in
+    let l = six-left i in
+    let k = answering-long (c .before .before .before .before .before .call .ensures .answers) in
+    (omega arith, omega arith)
+
+same-length-5 : tie.Need-same-length-5 Inv-loop μ-loop
+same-length-5 c =
+    c .before .before .end5 .kept .0 ∙ (answering-long (c .before .before .before .before .before .before .before .before .call .ensures .answers) ∙ c .before .before .before .before .before .before .before .before .before .before .before .before .before .before .before .before .before .before .before .before .before .before .before .before .loop .inv .running .long)
+
+returns-5 : tie.Need-returns-5 Inv-loop μ-loop
+returns-5 c =
+    let k = c .before .before .before .before .before .before .before .before .before .before .before .before .before .before .before .before .before .before .before .before .before in
+    walk-full (c .before .before .before .before .before .before .before .before .before .before .before .before .before .before .before .before .before .before .before .before .before .before .before .before .loop .inv) (stands k) (stepped (c .before .before .before .before .before .before .before .before .before .before .before .before .before .before .before .before .before .before .before)) (c .before .before .before .before .before .before .before .before .call .ensures) (items-some (world-of k) _ (eventOf (kind-of k) (c .before .before .before .before .before .before .before .before .before .before .before .before .before .before .before .before .before .before .before .record-at .result .now))) (c .before .before .before .before .if3 .taken) (c .before .before .end5 .ensures)
+
+loop-less-2 : tie.Need-loop-less-2 Inv-loop μ-loop
+loop-less-2 c =
+    let p = placed (c .before .before .before .before .before .before .before .before .before .before .before .before .before .before .before .before .before .before .before) in
+    let i = p .inside in
+    let j = p .next-is in
+    omega arith
+
+loop-again-2 : tie.Need-loop-again-2 Inv-loop μ-loop
+loop-again-2 c =
+    let k = c .before .before .before .before .before .before .before .before .before .before .before .before .before .before .before .before .before .before .before in
+    walk-on (c .before .before .before .before .before .before .before .before .before .before .before .before .before .before .before .before .before .before .before .before .before .before .loop .inv) (stands k) (stepped (c .before .before .before .before .before .before .before .before .before .before .before .before .before .before .before .before .before)) (c .before .before .before .before .before .before .call .ensures) (c .before .before .if3 .left)
 
 pub walk-spec : {M : Type 1} → statement M
 walk-spec =
@@ -223,9 +265,16 @@ walk-spec =
     returns-3
     enum-known-kind
     record-at-requires
-    turn-requires
+    is-own-requires
+    serve-requires
     end-requires-4
     same-length-4
     returns-4
     loop-less
-    loop-again)
+    loop-again
+    call-requires
+    end-requires-5
+    same-length-5
+    returns-5
+    loop-less-2
+    loop-again-2)
