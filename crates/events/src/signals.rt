@@ -40,14 +40,14 @@ pub fn settings_in(b: &[u8]) -> Settings
     }
 }
 
-pub fn decode_settings(b: &[u8]) -> Event
+pub(crate) fn decode_settings(b: &[u8]) -> Event
     requires { ⌜ 10 ≤ length (now b) ⌝ }
     ensures { λ r. ⌜ r ≡ settingsOf (now (b .entry)) ⌝ }
 {
     Event::OnSettings(settings_in(b))
 }
 
-pub fn decode_dequeue(b: &[u8]) -> Event
+pub(crate) fn decode_dequeue(b: &[u8]) -> Event
     requires { ⌜ 8 ≤ length (now b) ⌝ }
     ensures { λ r. ⌜ r ≡ dequeueOf (now (b .entry)) ⌝ }
 {
@@ -129,21 +129,21 @@ pub fn decode_ack(b: &[u8]) -> Event
     }
 }
 
-pub fn decode_retry(b: &[u8]) -> Event
+pub(crate) fn decode_retry(b: &[u8]) -> Event
     requires { ⌜ 2 ≤ length (now b) ⌝ }
     ensures { λ r. ⌜ r ≡ retryOf (now (b .entry)) ⌝ }
 {
     Event::OnRetry(u16_at(b, 0))
 }
 
-pub fn decode_fail(b: &[u8]) -> Event
+pub(crate) fn decode_fail(b: &[u8]) -> Event
     requires { ⌜ 2 ≤ length (now b) ⌝ }
     ensures { λ r. ⌜ r ≡ failOf (now (b .entry)) ⌝ }
 {
     Event::OnFail(u16_at(b, 0))
 }
 
-pub fn decode_delivered(b: &[u8]) -> Event
+pub(crate) fn decode_delivered(b: &[u8]) -> Event
     requires { ⌜ 3 ≤ length (now b) ⌝ }
     ensures { λ r. ⌜ r ≡ deliveredOf (now (b .entry)) ⌝ }
 {
@@ -165,21 +165,21 @@ pub fn decode_drop(b: &[u8]) -> Event
 
 // ---- times, the map, and questions
 
-pub fn decode_cancel(b: &[u8]) -> Event
+pub(crate) fn decode_cancel(b: &[u8]) -> Event
     requires { ⌜ 4 ≤ length (now b) ⌝ }
     ensures { λ r. ⌜ r ≡ cancelOf (now (b .entry)) ⌝ }
 {
     Event::OnCancel(u32_at(b, 0))
 }
 
-pub fn decode_tick(b: &[u8]) -> Event
+pub(crate) fn decode_tick(b: &[u8]) -> Event
     requires { ⌜ 8 ≤ length (now b) ⌝ }
     ensures { λ r. ⌜ r ≡ tickOf (now (b .entry)) ⌝ }
 {
     Event::OnTick(u64_at(b, 0))
 }
 
-pub fn decode_pair(b: &[u8]) -> Event
+pub(crate) fn decode_pair(b: &[u8]) -> Event
     requires { ⌜ 10 ≤ length (now b) ⌝ }
     ensures { λ r. ⌜ r ≡ pairOf (now (b .entry)) ⌝ }
 {
@@ -188,7 +188,7 @@ pub fn decode_pair(b: &[u8]) -> Event
     Event::OnPair(extended, short)
 }
 
-pub fn decode_has_unrouted(b: &[u8]) -> Event
+pub(crate) fn decode_has_unrouted(b: &[u8]) -> Event
     requires { ⌜ 2 ≤ length (now b) ⌝ }
     ensures { λ r. ⌜ r ≡ hasUnroutedOf (now (b .entry)) ⌝ }
 {
