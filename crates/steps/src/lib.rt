@@ -16,19 +16,7 @@ ghost use Rattle.events.specs.Arrivals.{unicastOf, copyOf, unroutedOf, broadcas
 ghost use Rattle.events.specs.Signals.{reportOf, pollOf, ackOf, dropOf, hasUnroutedOf, hasAwaitingOf};
 ghost use Rattle.events.specs.Routes.{routeOf, resultsIn};
 ghost use Rattle.model.specs.Model.{lentModel, SoundTables, Does};
-ghost use Rattle.doing.specs.Parts.{quietly};
 ghost use Rattle.steps.specs.Applied.{effectOf, Plain, Later};
-
-// Nothing is told.
-fn quiet(c: Counts, a: Answer) -> Did
-    ensures { λ r. ⌜ r ≡ quietly c a ⌝ }
-{
-    Did {
-        counts: c,
-        answer: a,
-        told: 0,
-    }
-}
 
 // ---- the kinds that may be outside their form
 
@@ -59,7 +47,7 @@ fn on_unicast(
             u,
             t,
         ),
-        _ => quiet(c, Answer::Denied(Refusal::FieldMalformed)),
+        _ => doing::quiet(c, Answer::Denied(Refusal::FieldMalformed)),
     }
 }
 
@@ -91,7 +79,7 @@ fn on_copy(
             u,
             t,
         ),
-        _ => quiet(c, Answer::Denied(Refusal::FieldMalformed)),
+        _ => doing::quiet(c, Answer::Denied(Refusal::FieldMalformed)),
     }
 }
 
@@ -122,7 +110,7 @@ fn on_unrouted(
             u,
             t,
         ),
-        _ => quiet(c, Answer::Denied(Refusal::FieldMalformed)),
+        _ => doing::quiet(c, Answer::Denied(Refusal::FieldMalformed)),
     }
 }
 
@@ -153,7 +141,7 @@ fn on_broadcast(
             u,
             t,
         ),
-        _ => quiet(c, Answer::Denied(Refusal::FieldMalformed)),
+        _ => doing::quiet(c, Answer::Denied(Refusal::FieldMalformed)),
     }
 }
 
@@ -194,7 +182,7 @@ fn on_report(
             clock,
             delay,
         ),
-        _ => quiet(c, Answer::Denied(Refusal::FieldMalformed)),
+        _ => doing::quiet(c, Answer::Denied(Refusal::FieldMalformed)),
     }
 }
 
@@ -215,7 +203,7 @@ fn on_poll(
     let e = events::signals::decode_poll(body);
     match e {
         Event::OnPoll(t, eui, nwk) => lent::devices::poll(c, w, v, d, b, told, eui, nwk, t),
-        _ => quiet(c, Answer::Denied(Refusal::FieldMalformed)),
+        _ => doing::quiet(c, Answer::Denied(Refusal::FieldMalformed)),
     }
 }
 
@@ -236,7 +224,7 @@ fn on_ack(
     let e = events::signals::decode_ack(body);
     match e {
         Event::OnAck(k) => lent::devices::aps_ack_received(c, w, v, d, b, told, k),
-        _ => quiet(c, Answer::Denied(Refusal::FieldMalformed)),
+        _ => doing::quiet(c, Answer::Denied(Refusal::FieldMalformed)),
     }
 }
 
@@ -260,7 +248,7 @@ fn on_route(
             let results = events::routes::results_in(body);
             admitting::routes::route_unicasts(c, w, v, d, b, told, s, k, t, results, n)
         }
-        _ => quiet(c, Answer::Denied(Refusal::FieldMalformed)),
+        _ => doing::quiet(c, Answer::Denied(Refusal::FieldMalformed)),
     }
 }
 
@@ -290,7 +278,7 @@ fn on_drop(
             eui,
             nwk,
         ),
-        _ => quiet(c, Answer::Denied(Refusal::FieldMalformed)),
+        _ => doing::quiet(c, Answer::Denied(Refusal::FieldMalformed)),
     }
 }
 
@@ -312,9 +300,9 @@ fn on_awaiting(
     match e {
         Event::OnHasAwaiting(a) => {
             let x = scanning::asks::has_awaiting(w, c.unicasts, a);
-            quiet(c, Answer::Replied(x))
+            doing::quiet(c, Answer::Replied(x))
         }
-        _ => quiet(c, Answer::Denied(Refusal::FieldMalformed)),
+        _ => doing::quiet(c, Answer::Denied(Refusal::FieldMalformed)),
     }
 }
 
@@ -335,7 +323,7 @@ fn on_held(
     ensures { λ r. ⌜ Does (effectOf (lentModel c (now (w .entry)) (now (v .entry)) (now (d .entry)) (now (b .entry))) s (hasUnroutedOf (now (body .entry))) (resultsIn (now (body .entry)))) (now (told .entry)) (now (w .exit)) (now (v .exit)) (now (d .exit)) (now (b .exit)) (now (told .exit)) r ⌝ }
 {
     let x = unrouted::is_held(d, c.held, fields::numbers::u16_at(body, 0));
-    quiet(c, Answer::Replied(x))
+    doing::quiet(c, Answer::Replied(x))
 }
 
 // Kinds 10 to 16, 21 and 22; any other is outside its form.
@@ -388,7 +376,7 @@ fn act_later(
         16 => lent::ends::tick(c, w, v, d, b, told, fields::numbers::u64_at(body, 0)),
         21 => on_held(c, w, v, d, b, told, s, body),
         22 => on_awaiting(c, w, v, d, b, told, s, body),
-        _ => quiet(c, Answer::Denied(Refusal::FieldMalformed)),
+        _ => doing::quiet(c, Answer::Denied(Refusal::FieldMalformed)),
     }
 }
 

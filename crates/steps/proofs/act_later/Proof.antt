@@ -25,7 +25,7 @@ use Rattle.steps.proofs.on_awaiting.Reads as on-awaiting-reads
 use Rattle.steps.proofs.on_drop.Reads as on-drop-reads
 use Rattle.steps.proofs.on_held.Reads as on-held-reads
 use Rattle.steps.proofs.on_route.Reads as on-route-reads
-use Rattle.steps.proofs.quiet.Reads as quiet-reads
+use Rattle.doing.proofs.quiet.Reads as quiet-reads
 
 u16-at-requires : tie.Need-u16-at-requires
 unfolding bodyOf

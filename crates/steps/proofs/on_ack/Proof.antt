@@ -13,7 +13,7 @@ use Rattle.steps.proofs.on_ack.Reads as reads
 use Rattle.steps.proofs.on_ack.Lts as lts
 use Rattle.events.proofs.signals.decode_ack.Reads as decode-ack-reads
 use Rattle.lent.proofs.devices.aps_ack_received.Reads as aps-ack-received-reads
-use Rattle.steps.proofs.quiet.Reads as quiet-reads
+use Rattle.doing.proofs.quiet.Reads as quiet-reads
 
 decode-ack-requires : tie.Need-decode-ack-requires
 decode-ack-requires c κs = search needs

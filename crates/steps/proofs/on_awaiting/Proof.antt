@@ -16,7 +16,7 @@ use Rattle.steps.proofs.on_awaiting.Reads as reads
 use Rattle.steps.proofs.on_awaiting.Lts as lts
 use Rattle.events.proofs.signals.decode_has_awaiting.Reads as decode-has-awaiting-reads
 use Rattle.scanning.proofs.asks.has_awaiting.Reads as has-awaiting-reads
-use Rattle.steps.proofs.quiet.Reads as quiet-reads
+use Rattle.doing.proofs.quiet.Reads as quiet-reads
 
 decode-has-awaiting-requires : tie.Need-decode-has-awaiting-requires
 decode-has-awaiting-requires c κs = search needs

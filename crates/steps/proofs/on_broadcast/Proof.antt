@@ -13,7 +13,7 @@ use Rattle.steps.proofs.on_broadcast.Reads as reads
 use Rattle.steps.proofs.on_broadcast.Lts as lts
 use Rattle.admitting.proofs.enqueues.enqueue_broadcast.Reads as enqueue-broadcast-reads
 use Rattle.events.proofs.arrivals.decode_broadcast.Reads as decode-broadcast-reads
-use Rattle.steps.proofs.quiet.Reads as quiet-reads
+use Rattle.doing.proofs.quiet.Reads as quiet-reads
 
 decode-broadcast-requires : tie.Need-decode-broadcast-requires
 decode-broadcast-requires c κs = search needs

@@ -13,7 +13,7 @@ use Rattle.steps.proofs.on_copy.Reads as reads
 use Rattle.steps.proofs.on_copy.Lts as lts
 use Rattle.admitting.proofs.enqueues.enqueue_broadcast_copy.Reads as enqueue-broadcast-copy-reads
 use Rattle.events.proofs.arrivals.decode_copy.Reads as decode-copy-reads
-use Rattle.steps.proofs.quiet.Reads as quiet-reads
+use Rattle.doing.proofs.quiet.Reads as quiet-reads
 
 decode-copy-requires : tie.Need-decode-copy-requires
 decode-copy-requires c κs = search needs

@@ -13,7 +13,7 @@ use Rattle.steps.proofs.on_drop.Reads as reads
 use Rattle.steps.proofs.on_drop.Lts as lts
 use Rattle.events.proofs.signals.decode_drop.Reads as decode-drop-reads
 use Rattle.lent.proofs.devices.drop_indirect_unicasts.Reads as drop-indirect-unicasts-reads
-use Rattle.steps.proofs.quiet.Reads as quiet-reads
+use Rattle.doing.proofs.quiet.Reads as quiet-reads
 
 decode-drop-requires : tie.Need-decode-drop-requires
 decode-drop-requires c κs = search needs

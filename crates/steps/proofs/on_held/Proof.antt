@@ -11,7 +11,7 @@ use Rattle.steps.proofs.on_held.Tie as tie
 use Rattle.steps.proofs.on_held.Reads as reads
 use Rattle.steps.proofs.on_held.Lts as lts
 use Rattle.fields.proofs.numbers.u16_at.Reads as u16-at-reads
-use Rattle.steps.proofs.quiet.Reads as quiet-reads
+use Rattle.doing.proofs.quiet.Reads as quiet-reads
 use Rattle.unrouted.proofs.is_held.Reads as is-held-reads
 
 u16-at-requires : tie.Need-u16-at-requires

@@ -13,7 +13,7 @@ use Rattle.steps.proofs.on_poll.Reads as reads
 use Rattle.steps.proofs.on_poll.Lts as lts
 use Rattle.events.proofs.signals.decode_poll.Reads as decode-poll-reads
 use Rattle.lent.proofs.devices.poll.Reads as poll-reads
-use Rattle.steps.proofs.quiet.Reads as quiet-reads
+use Rattle.doing.proofs.quiet.Reads as quiet-reads
 
 decode-poll-requires : tie.Need-decode-poll-requires
 decode-poll-requires c κs = search needs

@@ -13,7 +13,7 @@ use Rattle.steps.proofs.on_report.Reads as reads
 use Rattle.steps.proofs.on_report.Lts as lts
 use Rattle.events.proofs.signals.decode_report.Reads as decode-report-reads
 use Rattle.lending.proofs.radio.transmitted.Reads as transmitted-reads
-use Rattle.steps.proofs.quiet.Reads as quiet-reads
+use Rattle.doing.proofs.quiet.Reads as quiet-reads
 
 decode-report-requires : tie.Need-decode-report-requires
 decode-report-requires c κs = search needs

@@ -14,7 +14,7 @@ use Rattle.steps.proofs.on_route.Lts as lts
 use Rattle.admitting.proofs.routes.route_unicasts.Reads as route-unicasts-reads
 use Rattle.events.proofs.routes.decode_route.Reads as decode-route-reads
 use Rattle.events.proofs.routes.results_in.Reads as results-in-reads
-use Rattle.steps.proofs.quiet.Reads as quiet-reads
+use Rattle.doing.proofs.quiet.Reads as quiet-reads
 
 decode-route-requires : tie.Need-decode-route-requires
 decode-route-requires c κs = search needs

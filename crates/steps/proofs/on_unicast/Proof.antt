@@ -13,7 +13,7 @@ use Rattle.steps.proofs.on_unicast.Reads as reads
 use Rattle.steps.proofs.on_unicast.Lts as lts
 use Rattle.admitting.proofs.enqueues.enqueue_unicast.Reads as enqueue-unicast-reads
 use Rattle.events.proofs.arrivals.decode_unicast.Reads as decode-unicast-reads
-use Rattle.steps.proofs.quiet.Reads as quiet-reads
+use Rattle.doing.proofs.quiet.Reads as quiet-reads
 
 decode-unicast-requires : tie.Need-decode-unicast-requires
 decode-unicast-requires c κs = search needs

@@ -13,7 +13,7 @@ use Rattle.steps.proofs.on_unrouted.Reads as reads
 use Rattle.steps.proofs.on_unrouted.Lts as lts
 use Rattle.admitting.proofs.enqueues.enqueue_unrouted_unicast.Reads as enqueue-unrouted-unicast-reads
 use Rattle.events.proofs.arrivals.decode_unrouted.Reads as decode-unrouted-reads
-use Rattle.steps.proofs.quiet.Reads as quiet-reads
+use Rattle.doing.proofs.quiet.Reads as quiet-reads
 
 decode-unrouted-requires : tie.Need-decode-unrouted-requires
 decode-unrouted-requires c κs = search needs
