@@ -1,4 +1,6 @@
 // What calls tell, in a lent buffer of words: 112 places of five words, an action in each.
+#![tactic(auto)]
+
 ghost use Rattle.std.specs.Prelude.{◌≡◌, ◌+◌, ◌%◌, ◌<◌, ◌≤◌, [], ◌∷◌};
 ghost use Rattle.codes.specs.Codes.{address_from};
 ghost use Rattle.rows.specs.Moves.{settling};

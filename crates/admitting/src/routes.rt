@@ -15,14 +15,14 @@ use records::{Address, Opt16, Opt32, Opt64, Refusal, Settings, Unicast, Unrouted
 use unrouted::{NextSend, Retry, Which};
 
 // How many unicasts there are, and the next place in the buffer.
-#[derive(Drop)]
+#[derive(Clone, Copy)]
 pub(crate) struct Entered {
     pub sends: usize,
     pub told: usize,
 }
 
 // How many unicasts and unrouted sends there are, and the next place in the buffer.
-#[derive(Drop)]
+#[derive(Clone, Copy)]
 pub(crate) struct Gone {
     pub unicasts: usize,
     pub unrouted: usize,

@@ -1,4 +1,6 @@
 // The answers of a trace as bytes: an item for each kind of answer, its writing into a lent output, and how long a told action is.
+#![tactic(auto)]
+
 ghost use Rattle.std.specs.Prelude.{◌≡◌, ◌+◌, ◌≤◌, length};
 ghost use Rattle.answers.specs.Bytes.{Written};
 ghost use Rattle.answers.specs.Items.{item_bytes, action_bytes};
@@ -12,7 +14,7 @@ pub mod parts;
 
 // One answer, in the order of the kinds 128 to 141: what the contracts speak of, no code makes one. Handoff, settlement and
 // abandonment name the send and the one that waits for it; the end has the run's status and the bytes consumed.
-#[derive(Drop)]
+#[derive(Clone, Copy)]
 pub enum Item {
     Refused(Refusal),
     Done,

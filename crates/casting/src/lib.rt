@@ -1,11 +1,13 @@
 // The rules of broadcasts as definitions, what they answer with, and what a scan asks of one broadcast.
+#![tactic(auto)]
+
 use records::{Broadcast, QuorumKey, Refusal, Verdict};
 
 pub mod heads;
 
 // What becomes of one broadcast: it stays; it stays, and its handoff is told; or it is settled, its handoff told again first
 // or not.
-#[derive(Drop)]
+#[derive(Clone, Copy)]
 pub enum TurnB {
     KeepsB(Broadcast),
     HandsOffB(Broadcast),
@@ -13,28 +15,28 @@ pub enum TurnB {
 }
 
 // How many broadcasts are left, and the next place in the buffer.
-#[derive(Drop)]
+#[derive(Clone, Copy)]
 pub struct Counts {
     pub sends: usize,
     pub told: usize,
 }
 
 // What a call on one broadcast answers.
-#[derive(Drop)]
+#[derive(Clone, Copy)]
 pub enum Outcome {
     Refused(Refusal),
     Done(Counts),
 }
 
 // The best queued broadcast: its id, and the rank of its priority.
-#[derive(Drop)]
+#[derive(Clone, Copy)]
 pub enum Best {
     NoBest,
     BestIs(u32, u8),
 }
 
 // The key whose quorum a broadcast waits for.
-#[derive(Drop)]
+#[derive(Clone, Copy)]
 pub enum Awaited {
     NotAwaited,
     Awaits(QuorumKey),

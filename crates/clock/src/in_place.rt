@@ -8,14 +8,14 @@ use crate::{Advanced, Clock};
 use records::Refusal;
 
 // What the holder of a lent clock is told: the refusal, or the time that it now stands at.
-#[derive(Drop)]
+#[derive(Clone, Copy)]
 pub enum Told {
     TooLate(Refusal),
     At(u64),
 }
 
 // The same in numbers, with where the clock stands: the refusal's number, or 0.
-#[derive(Drop)]
+#[derive(Clone, Copy)]
 pub struct Numbers {
     pub refusal: u8,
     pub last: u32,

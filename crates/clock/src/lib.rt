@@ -1,5 +1,7 @@
 // The clock over the radio's counter: 32 bits of milliseconds that wrap, made into a time of 64 bits that does not. Here by
 // value; `in_place` has the form that is lent by `&mut`.
+#![tactic(auto)]
+
 pub mod in_place;
 
 ghost use Rattle.std.specs.Prelude.{◌≡◌};
@@ -8,21 +10,21 @@ ghost use Rattle.clock.specs.Clock.{fresh_of, advance_of};
 use records::Refusal;
 
 // The reading that was taken last, and the time at it.
-#[derive(Drop)]
+#[derive(Clone, Copy)]
 pub struct Clock {
     pub last: u32,
     pub time: u64,
 }
 
 // What starting a clock answers.
-#[derive(Drop)]
+#[derive(Clone, Copy)]
 pub enum Started {
     Refused(Refusal),
     Running(Clock),
 }
 
 // What a reading does. A clock that refuses it comes back as it was.
-#[derive(Drop)]
+#[derive(Clone, Copy)]
 pub enum Advanced {
     Unmoved(Refusal, Clock),
     Moved(Clock),

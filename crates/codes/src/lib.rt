@@ -1,5 +1,7 @@
 // The parts of a record as numbers, and back: optional numbers, levels, addresses, stages, schedules and what confirms a send. For
 // the layouts of records and actions in words alone.
+#![tactic(auto)]
+
 ghost use Rattle.std.specs.Prelude.{◌≡◌};
 ghost use Rattle.records.specs.Pick.{bit};
 ghost use Rattle.codes.specs.Codes.{opt8_word, opt8_from, opt16_word, opt16_from, opt32_word, opt32_from, priority_from, address_tag, address_from, stage_tag, stage_time, stage_from, copy_tag, copy_from, schedule_tag, schedule_next, schedule_from, quorum_word, quorum_from, ack_key_from, confirm_from, Coded, CodedAddress, CodedCopies, CodedSchedule, CodedConfirm};
@@ -287,7 +289,7 @@ pub fn schedule_of(tag: u64, copies: u64, what: u64, next: u64) -> Schedule
 
 // ---- what confirms a send: two words
 
-#[derive(Drop)]
+#[derive(Clone, Copy)]
 pub struct Two {
     pub first: u64,
     pub second: u64,

@@ -1,5 +1,7 @@
 // What the calls over lent tables share: w holds the unicasts, v the unrouted sends, d the held destinations, b the broadcasts,
 // each as many as the counts say. Each call checks its own input; refused, it leaves every lent word as it came.
+#![tactic(auto)]
+
 ghost use Rattle.std.specs.Prelude.{◌≡◌};
 ghost use Rattle.model.specs.Calls.{late};
 ghost use Rattle.doing.specs.Parts.{denied_by, quietly, with_unicast_count, with_broadcast_count};

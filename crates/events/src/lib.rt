@@ -1,4 +1,6 @@
 // The events of a trace: an event out of a record's body.
+#![tactic(auto)]
+
 use model::{Lender, NewBroadcast, NewUnicast, NewUnrouted, Resolved};
 use records::{AckKey, Address, Opt16, Opt64, QuorumKey, Settings, TxResult};
 
@@ -9,13 +11,13 @@ pub mod signals;
 
 // ---- what has parts of its own: what was read, or that it is outside its form
 
-#[derive(Drop)]
+#[derive(Clone, Copy)]
 pub enum ReadResolved {
     IsResolved(Resolved),
     WrongResolved,
 }
 
-#[derive(Drop)]
+#[derive(Clone, Copy)]
 pub enum ReadUnicast {
     IsUnicast(NewUnicast),
     WrongUnicast,
@@ -25,7 +27,7 @@ pub enum ReadUnicast {
 
 // An event by its kind, 1 to 22, with what its call takes; or that its record is outside its form, which is refusal 14. The
 // sixteen results of a route stand beside it (routes::route_results).
-#[derive(Drop)]
+#[derive(Clone, Copy)]
 pub enum Event {
     OnSettings(Settings),
     OnUnicast(u64, NewUnicast),

@@ -1,5 +1,7 @@
 // One event of a trace: it is applied to the tables, the settings and the address map, all lent, and its answers are written if
 // they fit before the six bytes that are kept for the end.
+#![tactic(auto)]
+
 ghost use Rattle.std.specs.Prelude.{◌+◌, ◌≤◌, ◌≡◌, true, false, [], length};
 ghost use Rattle.framing.specs.Kinds.{body_of};
 ghost use Rattle.events.specs.Events.{event_of};
@@ -17,7 +19,7 @@ pub mod lists;
 
 // What an event leaves beside the lent arrays: the last is the place after its answers, or 0 where they do not fit. A number and no
 // enum, whose bytes would go through memory on every event.
-#[derive(Drop)]
+#[derive(Clone, Copy)]
 pub struct Left {
     pub counts: Counts,
     pub settings: Settings,

@@ -15,7 +15,7 @@ use model::Counts;
 use sending::Book;
 
 // How many there are of each.
-#[derive(Drop)]
+#[derive(Clone, Copy)]
 pub struct Sizes {
     pub destinations: usize,
     pub keys: usize,

@@ -12,7 +12,7 @@ use sending::{Best, Loan};
 use unicasts::Outcome;
 
 // The send that goes to the radio, if one does.
-#[derive(Drop)]
+#[derive(Clone, Copy)]
 pub(crate) enum Chosen {
     NoSend,
     OneUnicast(u32),

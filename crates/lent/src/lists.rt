@@ -15,7 +15,7 @@ use records::{Entry, Opt64};
 use sending::Book;
 
 // The slices are no address map, or how many members the set has.
-#[derive(Drop)]
+#[derive(Clone, Copy)]
 pub enum Matched {
     MapBarred,
     Members(usize),

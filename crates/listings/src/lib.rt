@@ -1,5 +1,7 @@
 // What a trace answers beside the tables' calls: a list of numbers out of a lent array, one item for each of its first n places.
 // Each writer answers the next place; all else of the output stays.
+#![tactic(auto)]
+
 ghost use Rattle.std.specs.Prelude.{◌+◌, ◌*◌, ◌≤◌, length};
 ghost use Rattle.answers.specs.Bytes.{Written};
 ghost use Rattle.answers.specs.Items.{items_bytes};

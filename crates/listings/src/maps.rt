@@ -6,7 +6,7 @@ ghost use Rattle.std.proofs.Math.Seq.{slice};
 ghost use Rattle.listings.specs.Maps.{place_in, is_there, MapSound, PairPut};
 
 // No place is left, or how many pairs there are then.
-#[derive(Drop)]
+#[derive(Clone, Copy)]
 pub enum Paired {
     NoPlaceLeft,
     Pairs(usize),

@@ -1,8 +1,10 @@
 // What the calls of the send tables take and answer, by value. Their meaning is in specs/, over lists of records.
+#![tactic(auto)]
+
 use records::{Address, Confirm, Priority, Refusal, Schedule};
 
 // A unicast with a known next hop, as it is handed in; with a poll address it waits for its device to poll.
-#[derive(Drop)]
+#[derive(Clone, Copy)]
 pub struct NewUnicast {
     pub frame: u32,
     pub waiter: u32,
@@ -13,7 +15,7 @@ pub struct NewUnicast {
 }
 
 // A unicast that waits for a route to its destination.
-#[derive(Drop)]
+#[derive(Clone, Copy)]
 pub struct NewUnrouted {
     pub frame: u32,
     pub waiter: u32,
@@ -22,7 +24,7 @@ pub struct NewUnrouted {
     pub destination: u16,
 }
 
-#[derive(Drop)]
+#[derive(Clone, Copy)]
 pub struct NewBroadcast {
     pub frame: u32,
     pub waiter: u32,
@@ -31,21 +33,21 @@ pub struct NewBroadcast {
 }
 
 // What a route found for one send: its next hop and the address its device polls under, or the caller's code.
-#[derive(Drop)]
+#[derive(Clone, Copy)]
 pub enum Resolved {
     Reached(u16, Address),
     Unreached(u16),
 }
 
 // The two tables that lend to the radio, as a report names them.
-#[derive(Drop)]
+#[derive(Clone, Copy)]
 pub enum Lender {
     FromUnicasts,
     FromBroadcasts,
 }
 
 // How a frame goes out: to a next hop, and whether another frame is pending for the device; or to all.
-#[derive(Drop)]
+#[derive(Clone, Copy)]
 pub enum Transmit {
     Unicasting(u16, bool),
     Broadcasting,
@@ -53,7 +55,7 @@ pub enum Transmit {
 
 // What a call answers: why it is denied; that it is done; the id of the new send; yes or no; that nothing is queued; or the
 // send that goes to the radio, with its frame.
-#[derive(Drop)]
+#[derive(Clone, Copy)]
 pub enum Answer {
     Denied(Refusal),
     Accepted,
@@ -64,7 +66,7 @@ pub enum Answer {
 }
 
 // The next id, and how many records each table holds.
-#[derive(Drop)]
+#[derive(Clone, Copy)]
 pub struct Counts {
     pub next_id: u32,
     pub unicasts: usize,
@@ -74,7 +76,7 @@ pub struct Counts {
 }
 
 // What a call on lent tables gives back: the counts after it, its answer, and how many actions it told.
-#[derive(Drop)]
+#[derive(Clone, Copy)]
 pub struct Did {
     pub counts: Counts,
     pub answer: Answer,
@@ -82,7 +84,7 @@ pub struct Did {
 }
 
 // The three tables of sends behind one id space, and the destinations held for discovery, by value.
-#[derive(Drop)]
+#[derive(Clone, Copy)]
 pub struct Sends {
     pub counts: Counts,
     pub unicasts: [u64; 320],
@@ -92,7 +94,7 @@ pub struct Sends {
 }
 
 // What a call on tables by value gives back.
-#[derive(Drop)]
+#[derive(Clone, Copy)]
 pub struct Answered {
     pub sends: Sends,
     pub answer: Answer,
@@ -100,14 +102,14 @@ pub struct Answered {
 }
 
 // What an abandon of lent tables gives back: the counts after it, and how many sends it listed.
-#[derive(Drop)]
+#[derive(Clone, Copy)]
 pub struct Abandoned {
     pub counts: Counts,
     pub listed: usize,
 }
 
 // What an abandon of tables by value gives back.
-#[derive(Drop)]
+#[derive(Clone, Copy)]
 pub struct Emptied {
     pub sends: Sends,
     pub listed: usize,

@@ -1,5 +1,7 @@
 // The story of a school's door panel, which sleeps and fetches its frames by polls: an update that the radio fails to send, and
 // one that it sends. Each call is printed with its answer and its actions, as they come.
+#![tactic(auto)]
+
 ghost use Rattle.std.specs.Prelude.{◌≡◌, ◌≤◌};
 ghost use Rattle.model.specs.Sound.{Sound};
 
@@ -15,7 +17,7 @@ const PANEL: u64 = 0x00124b0000c0ffee;
 const PANEL_SHORT: u16 = 0x3f21;
 
 // What the gateway keeps between calls: the send tables, and whether the green tick is lit.
-#[derive(Drop)]
+#[derive(Clone, Copy)]
 struct Gateway {
     sends: Sends,
     lit: bool,

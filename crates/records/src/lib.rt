@@ -1,4 +1,6 @@
 // The plain data of the send tables, by value: what a send, its record and its verdict are made of, with the names of the Rust.
+#![tactic(auto)]
+
 pub mod blanks;
 pub mod compare;
 pub mod numbers;
@@ -6,32 +8,32 @@ pub mod priorities;
 pub mod times;
 
 // An optional number of each width. The first variant is the absent one, so that a blank record has nothing in it.
-#[derive(Drop)]
+#[derive(Clone, Copy)]
 pub enum Opt8 {
     None8,
     Some8(u8),
 }
 
-#[derive(Drop)]
+#[derive(Clone, Copy)]
 pub enum Opt16 {
     None16,
     Some16(u16),
 }
 
-#[derive(Drop)]
+#[derive(Clone, Copy)]
 pub enum Opt32 {
     None32,
     Some32(u32),
 }
 
-#[derive(Drop)]
+#[derive(Clone, Copy)]
 pub enum Opt64 {
     None64,
     Some64(u64),
 }
 
 // The address that a device polls under.
-#[derive(Drop)]
+#[derive(Clone, Copy)]
 pub enum Address {
     Absent,
     Short(u16),
@@ -39,7 +41,7 @@ pub enum Address {
 }
 
 // Transmit priority, lowest first.
-#[derive(Drop)]
+#[derive(Clone, Copy)]
 pub enum Priority {
     Background,
     UserLow,
@@ -50,7 +52,7 @@ pub enum Priority {
 }
 
 // What an end-to-end ack is matched on.
-#[derive(Drop)]
+#[derive(Clone, Copy)]
 pub struct AckKey {
     pub src: u16,
     pub destination_endpoint: Opt8,
@@ -61,14 +63,14 @@ pub struct AckKey {
 }
 
 // What settles a unicast: its handoff, or an ack with that key, waited for that long after the handoff.
-#[derive(Drop)]
+#[derive(Clone, Copy)]
 pub enum Confirm {
     OnHandoff,
     ApsAck(AckKey, u32),
 }
 
 // Where a unicast stands. In the radio it keeps whether its ack has come; a retry keeps the time at which it is due.
-#[derive(Drop)]
+#[derive(Clone, Copy)]
 pub enum Stage {
     Queued,
     Transmitting(bool),
@@ -78,7 +80,7 @@ pub enum Stage {
 }
 
 // A unicast with a known next hop. The handle of its frame stays here while the frame is in the radio.
-#[derive(Drop)]
+#[derive(Clone, Copy)]
 pub struct Unicast {
     pub id: u32,
     pub frame: u32,
@@ -94,7 +96,7 @@ pub struct Unicast {
 }
 
 // A unicast that waits for a route to its destination.
-#[derive(Drop)]
+#[derive(Clone, Copy)]
 pub struct Unrouted {
     pub id: u32,
     pub frame: u32,
@@ -106,21 +108,21 @@ pub struct Unrouted {
 }
 
 // A destination whose route is being discovered, and how often that may be started again.
-#[derive(Drop)]
+#[derive(Clone, Copy)]
 pub struct Destination {
     pub address: u16,
     pub retries: u8,
 }
 
 // What a quorum is reported for.
-#[derive(Drop)]
+#[derive(Clone, Copy)]
 pub struct QuorumKey {
     pub src: u16,
     pub sequence: u8,
 }
 
 // How a broadcast is repeated: copies left, and when the next is due.
-#[derive(Drop)]
+#[derive(Clone, Copy)]
 pub enum Schedule {
     Once,
     PassiveAck {
@@ -136,14 +138,14 @@ pub enum Schedule {
 }
 
 // Where a broadcast's copy stands.
-#[derive(Drop)]
+#[derive(Clone, Copy)]
 pub enum CopyState {
     Idle,
     CopyQueued,
     CopyTransmitting,
 }
 
-#[derive(Drop)]
+#[derive(Clone, Copy)]
 pub struct Broadcast {
     pub id: u32,
     pub frame: u32,
@@ -158,7 +160,7 @@ pub struct Broadcast {
 }
 
 // The settings that a call reads: two times in milliseconds, a unicast's retries, and a destination's discoveries.
-#[derive(Drop)]
+#[derive(Clone, Copy)]
 pub struct Settings {
     pub handoff_timeout: u32,
     pub persistence_time: u32,
@@ -167,14 +169,14 @@ pub struct Settings {
 }
 
 // What the radio reports of a transmit.
-#[derive(Drop)]
+#[derive(Clone, Copy)]
 pub enum TxResult {
     Sent,
     Failed(u16),
 }
 
 // A failure that a table decides on.
-#[derive(Drop)]
+#[derive(Clone, Copy)]
 pub enum SendFailure {
     HandoffTimeout,
     ApsAckTimeout,
@@ -185,7 +187,7 @@ pub enum SendFailure {
 }
 
 // How a send ended: well, by a failure of the tables, or with the radio's or the resolver's code.
-#[derive(Drop)]
+#[derive(Clone, Copy)]
 pub enum Verdict {
     Success,
     Failure(SendFailure),
@@ -193,7 +195,7 @@ pub enum Verdict {
 }
 
 // What a send is known by for its whole life: its id and the two handles that it came with.
-#[derive(Drop)]
+#[derive(Clone, Copy)]
 pub struct Entry {
     pub id: u32,
     pub waiter: u32,
@@ -202,14 +204,14 @@ pub struct Entry {
 
 // What the driver must do after a call: tell the waiter of a send, by id, that the mesh took it; or that it is over, and at
 // which next hop its attempts ran out.
-#[derive(Drop)]
+#[derive(Clone, Copy)]
 pub enum Action {
     HandedOff(u32, u32),
     Settled(Entry, Verdict, Opt16),
 }
 
 // Why a call or a trace is refused, in the order of the numbers 1 to 16.
-#[derive(Drop)]
+#[derive(Clone, Copy)]
 pub enum Refusal {
     TimeTooLate,
     IdsExhausted,

@@ -2,14 +2,14 @@
 ghost use Rattle.std.specs.Prelude.{◌≡◌, ◌≤◌, ◌<◌};
 ghost use Rattle.replay.specs.Cases.{four_in, head_in, case_in};
 
-#[derive(Drop)]
+#[derive(Clone, Copy)]
 pub(crate) enum Head {
     Follow(usize),
     NoHead,
 }
 
 // The capacity, and how long the trace and the answers are.
-#[derive(Drop)]
+#[derive(Clone, Copy)]
 pub(crate) enum Case {
     Claims {
         capacity: usize,

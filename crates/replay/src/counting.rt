@@ -3,14 +3,14 @@ ghost use Rattle.std.specs.Prelude.{◌≡◌, ◌<◌};
 ghost use Rattle.replay.specs.Counting.{Few, blank, past, counted_of, begun_of};
 
 // A case by its file, counted from 1, and its place there, from 0.
-#[derive(Drop)]
+#[derive(Clone, Copy)]
 pub(crate) struct Spot {
     pub file: usize,
     pub place: usize,
 }
 
 // How many cases are left in this file, and which is the next; the first that differed; how many there were, and how many agreed.
-#[derive(Drop)]
+#[derive(Clone, Copy)]
 pub(crate) struct Tally {
     pub left: usize,
     pub here: Spot,

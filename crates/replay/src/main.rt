@@ -1,5 +1,7 @@
 // Case files on standard input, one after the other (stored/README.md has their form): how many cases there were, and how many
 // of them agreed with what trace::run writes.
+#![tactic(auto)]
+
 use counting::Tally;
 use libc::STDOUT_FILENO;
 use reading::Outcome;

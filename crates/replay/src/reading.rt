@@ -8,20 +8,20 @@ use crate::counting::Tally;
 use crate::{cases, counting, judging};
 use libc::STDIN_FILENO;
 
-#[derive(Drop)]
+#[derive(Clone, Copy)]
 pub(crate) enum Next {
     On(Tally),
     Ended,
     Damaged,
 }
 
-#[derive(Drop)]
+#[derive(Clone, Copy)]
 pub(crate) enum Outcome {
     Read(Tally),
     Broken(Tally),
 }
 
-#[derive(Drop)]
+#[derive(Clone, Copy)]
 enum Judged {
     Agrees(bool),
     Unread,

@@ -1,5 +1,7 @@
 // The reply to one event of a trace as bytes: the call's answer, the actions that it told, and 129; or one 128 alone. First how long it is,
 // then its writing into a lent output.
+#![tactic(auto)]
+
 ghost use Rattle.std.specs.Prelude.{◌≡◌, ◌+◌, ◌≤◌, length};
 ghost use Rattle.answers.specs.Bytes.{Written};
 ghost use Rattle.answers.specs.Items.{items_bytes, actions_bytes};

@@ -1,33 +1,35 @@
 // Rows of words in a lent slice: row i is the `width` words from i * width on, and its first word is its key. One search and
 // two moves that serve every table.
+#![tactic(auto)]
+
 ghost use Rattle.std.specs.Prelude.{◌≡◌, ◌+◌, ◌*◌, ◌≤◌, ◌<◌, length, replicate};
 ghost use Rattle.std.proofs.lemmas.List.Edits.{sets};
 ghost use Rattle.rows.specs.Lists.{place_of};
 ghost use Rattle.rows.specs.Rows.{first_word, rows_from, itself, spot_in, place_of_spot, Searched, moved, closed, opened, Slotted, Unslotted};
 
 // Where a record with the asked key stands.
-#[derive(Drop)]
+#[derive(Clone, Copy)]
 pub enum Place {
     Nowhere,
     Here(usize),
 }
 
 // What inserting answers: there is no free place, or how many records the table has then.
-#[derive(Drop)]
+#[derive(Clone, Copy)]
 pub enum Inserted {
     Full,
     Holding(usize),
 }
 
 // A place with the asked key, or the place where a row with that key belongs.
-#[derive(Drop)]
+#[derive(Clone, Copy)]
 pub enum Spot {
     Taken(usize),
     Free(usize),
 }
 
 // Where a row may be written: nowhere, over the one with its key, or at a new place.
-#[derive(Drop)]
+#[derive(Clone, Copy)]
 pub enum Slot {
     Shut,
     Over(usize),

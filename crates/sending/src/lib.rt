@@ -1,8 +1,10 @@
 // What the rules of unicasts speak of, and no functions: the rules stand in specs/, and what is proved of them alone in proofs/.
+#![tactic(auto)]
+
 use records::{Address, Opt16, Opt64, Priority, Refusal, SendFailure, Unicast, Verdict};
 
 // What becomes of one send: it stays, it stays and its handoff is told, or it is settled.
-#[derive(Drop)]
+#[derive(Clone, Copy)]
 pub enum UnicastTurn {
     KeepsU(Unicast),
     HandsOffU(Unicast),
@@ -10,7 +12,7 @@ pub enum UnicastTurn {
 }
 
 // What a sweep makes of one send: nothing, a retry is queued, or it fails, its handoff told again first or not.
-#[derive(Drop)]
+#[derive(Clone, Copy)]
 pub enum Due {
     Leave,
     Requeue,
@@ -18,7 +20,7 @@ pub enum Due {
 }
 
 // Which sends a sweep is for: a tick at a time, a device that is no child any more, or the copies of a broadcast.
-#[derive(Drop)]
+#[derive(Clone, Copy)]
 pub enum Which {
     Lapsed(u64),
     Dropped(Opt64, u16),
@@ -26,7 +28,7 @@ pub enum Which {
 }
 
 // What a scan by head seeks: a send pending for an address, one besides a send, or a broadcast's copy in the radio.
-#[derive(Drop)]
+#[derive(Clone, Copy)]
 pub enum Sought {
     Pending(Address),
     Beside(u32, Address),
@@ -34,28 +36,28 @@ pub enum Sought {
 }
 
 // The best of the queued sends, by id, and its priority.
-#[derive(Drop)]
+#[derive(Clone, Copy)]
 pub enum Best {
     NoneReady,
     Ready(u32, Priority),
 }
 
 // What goes to the radio: the frame, its next hop, and whether another frame is pending for the device.
-#[derive(Drop)]
+#[derive(Clone, Copy)]
 pub enum Loan {
     NoLoan,
     Lent(u32, u16, bool),
 }
 
 // Which source-match set: of short addresses, or of extended ones.
-#[derive(Drop)]
+#[derive(Clone, Copy)]
 pub enum Book {
     Shorts,
     Longs,
 }
 
 // What a call on a set answers: why it is refused, that no member is left, or the next one.
-#[derive(Drop)]
+#[derive(Clone, Copy)]
 pub enum Listing {
     Barred(Refusal),
     NoMore,

@@ -1,5 +1,7 @@
 // The calls over the send tables by value: each takes the tables and gives them back with its answer, its actions told into a lent
 // buffer. No logic: each lends its tables to the call of `lent` with its name.
+#![tactic(auto)]
+
 ghost use Rattle.std.specs.Prelude.{◌≡◌};
 ghost use Rattle.model.specs.Model.{model_of, answered_of};
 ghost use Rattle.model.specs.Calls.{enqueue_unicast_of, enqueue_copy_of, enqueue_unrouted_of, enqueue_broadcast_of, dequeue_of, transmitted_of, poll_of, ack_of, retry_of, fail_of, route_of, delivered_of, drop_of, cancel_of, tick_of};

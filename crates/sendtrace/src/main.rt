@@ -1,4 +1,6 @@
 // A trace on standard input, its answers on standard output, as raw bytes. All the work is trace::run's.
+#![tactic(auto)]
+
 ghost use Rattle.std.specs.Prelude.{◌≡◌, length};
 
 use libc::{STDIN_FILENO, STDOUT_FILENO};

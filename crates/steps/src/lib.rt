@@ -1,5 +1,7 @@
 // One event of a trace is applied to the lent tables, by its kind: its call, its question, or refusal 14. The kinds that the run handles
 // itself do not come here. Each kind is decoded in its own arm, so that no event is ever put together in memory.
+#![tactic(auto)]
+
 ghost use Rattle.std.specs.Prelude.{◌≡◌, ◌≤◌, length};
 ghost use Rattle.framing.specs.Kinds.{body_of};
 ghost use Rattle.events.specs.Events.{event_of};

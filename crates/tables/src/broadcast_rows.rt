@@ -9,7 +9,7 @@ use records::{Broadcast, CopyState, Priority, Schedule};
 use rows::{Inserted, Place, Slot};
 
 // What a scan reads of a record: all but its handles, its handoff and its last error.
-#[derive(Drop)]
+#[derive(Clone, Copy)]
 pub struct BroadcastHead {
     pub id: u32,
     pub deadline: u64,

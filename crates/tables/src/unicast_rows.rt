@@ -9,7 +9,7 @@ use records::{Address, Confirm, Opt32, Priority, Stage, Unicast};
 use rows::{Inserted, Place, Slot};
 
 // What a scan reads of a record: all but its handles, its next hop and what confirms it.
-#[derive(Drop)]
+#[derive(Clone, Copy)]
 pub struct UnicastHead {
     pub id: u32,
     pub deadline: u64,

@@ -9,7 +9,7 @@ use records::Unrouted;
 use rows::{Inserted, Place, Slot};
 
 // What a scan reads of a record.
-#[derive(Drop)]
+#[derive(Clone, Copy)]
 pub struct UnroutedHead {
     pub id: u32,
     pub deadline: u64,

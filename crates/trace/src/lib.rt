@@ -1,4 +1,6 @@
 // The trace run: the records of a lent trace, one after the other, on fresh tables, and their answers into a lent output.
+#![tactic(auto)]
+
 ghost use Rattle.runs.specs.Run.{Ran};
 
 pub mod reader;

@@ -7,7 +7,7 @@ ghost use Rattle.trace.specs.Reading.{records_in};
 
 use framing::Standing;
 
-#[derive(Drop)]
+#[derive(Clone, Copy)]
 pub struct Reader<'a> {
     pub trace: &'a [u8],
     pub at: usize,

@@ -1,2 +1,4 @@
 // The rules on one unicast: what a call makes of it.
+#![tactic(auto)]
+
 pub mod rules;

@@ -1,4 +1,6 @@
 // The rules of unicasts with no route yet: on one send, and on the two lent tables of sends and of held destinations.
+#![tactic(auto)]
+
 ghost use Rattle.std.specs.Prelude.{◌≡◌, true, false, ◌+◌, ◌*◌, ◌-◌, ◌≤◌, ◌<◌, get_or};
 ghost use Rattle.records.specs.Limits.{last_time};
 ghost use Rattle.records.specs.Records.{unrouted_id, unrouted_entry, blank_unrouted, blank_destination, destination_address};
@@ -18,21 +20,21 @@ use rows::{Inserted, Place};
 use tables::unrouted_rows::UnroutedHead;
 
 // The sends that a sweep settles: those whose deadline has come by a time, or those to a destination.
-#[derive(Drop)]
+#[derive(Clone, Copy)]
 pub enum Which {
     Lapsed(u64),
     Bound(u16),
 }
 
 // How many sends are left, and the next place in the buffer.
-#[derive(Drop)]
+#[derive(Clone, Copy)]
 pub struct Counts {
     pub sends: usize,
     pub told: usize,
 }
 
 // The same, and how many destinations are held.
-#[derive(Drop)]
+#[derive(Clone, Copy)]
 pub struct Failed {
     pub sends: usize,
     pub held: usize,
@@ -40,14 +42,14 @@ pub struct Failed {
 }
 
 // No free place, or how many sends and destinations there are then.
-#[derive(Drop)]
+#[derive(Clone, Copy)]
 pub enum Entering {
     NoRoom,
     Entered(usize, usize),
 }
 
 // What a lapsed discovery is answered.
-#[derive(Drop)]
+#[derive(Clone, Copy)]
 pub enum Retry {
     NotHeld,
     Declined,
@@ -55,7 +57,7 @@ pub enum Retry {
 }
 
 // The next send that a route takes.
-#[derive(Drop)]
+#[derive(Clone, Copy)]
 pub enum NextSend {
     Nothing,
     Took(Unrouted),

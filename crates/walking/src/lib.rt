@@ -1,4 +1,6 @@
 // The walk over a trace's records: one after the other, on fresh tables, their answers into a lent output, and last the end.
+#![tactic(auto)]
+
 ghost use Rattle.std.specs.Prelude.{◌≡◌, ◌+◌, ◌≤◌, length};
 ghost use Rattle.model.specs.Model.{fresh_of, counts_of};
 ghost use Rattle.answers.specs.Bytes.{Written};

@@ -1,0 +1,14 @@
+use Prim.Native.Nat.{◌+◌, ◌-◌, ◌≤◌}
+use native.Mathlib.Omega.{arith}
+use mathlib.Core.Path.{◌≡◌, refl, sym, ◌∙◌}
+use lib.ListN.{length, set, length-set, replicate}
+use lib.Seq.{sets}
+use Rattle.rows.proofs.Sets.{left_clear, clear-start, clear-turn, clear-end}
+use borrow.Author.Rules.{rules}
+use Rattle.rows.proofs.clear.Goals as goal
+
+pub loop-j-preserved : goal.loop-j-preserved
+loop-j-preserved c =
+    let s = c.args in
+    let at = c.loop-j in
+    (omega arith, length-set at.w (s.from + at.j) 0 ∙ at.invariant.1, clear-turn s.from s.count at.j 0 at.w (omega arith) ∙ at.invariant.2)

@@ -1,0 +1,14 @@
+use Prim.Native.Nat.{◌+◌, ◌-◌, ◌≤◌}
+use native.Mathlib.Omega.{arith}
+use mathlib.Core.Path.{◌≡◌, refl, sym, ◌∙◌}
+use lib.ListN.{length, set, length-set}
+use Rattle.rows.specs.Rows.{moved}
+use Rattle.rows.proofs.Sets.{up_turn, up-end}
+use borrow.Author.Rules.{rules}
+use Rattle.rows.proofs.copy_up.Given as goal
+
+abbrev pub invariant-loop-j : goal.invariant-loop-j
+invariant-loop-j l = (l.j ≤ l.count) × (length l.w ≡ length l.initial.w) × (moved l.to l.from l.j l.w ≡ moved l.to l.from l.count l.initial.w)
+
+abbrev pub decreases-loop-j : goal.decreases-loop-j
+decreases-loop-j l = l.j

@@ -1,0 +1,10 @@
+use mathlib.Core.Path.{refl, sym, ap, ◌∙◌}
+use Rattle.rows.specs.Rows.{slot_of}
+use Rattle.rows.proofs.Answers.{slot-shut, slot-new, opens}
+use borrow.Author.Rules.{rules}
+use Rattle.rows.proofs.enter.Goals as goal
+
+pub open-requires : goal.open-requires
+open-requires c =
+    let e = sym c.in-Free.is ∙ c.find.ensures in
+    opens c.requires.searched c.args.key _ e c.if-room-n.false c.requires.n_le_room.1

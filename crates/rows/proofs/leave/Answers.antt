@@ -1,0 +1,12 @@
+use native.Mathlib.Omega.{arith}
+use mathlib.Core.Path.{sym, ap, ◌∙◌}
+use Rattle.rows.specs.Rows.{left_count, left_words}
+use Rattle.rows.proofs.Search.{search-lt}
+use Rattle.rows.proofs.Answers.{taken-some}
+use borrow.Author.Rules.{rules}
+use Rattle.rows.proofs.leave.Goals as goal
+
+pub close-requires : goal.close-requires
+close-requires c =
+    let e = sym c.in-Taken.is ∙ c.find.ensures in
+    (search-lt c.requires c.args.key _ (taken-some _ _ _ e), c.requires.there)
