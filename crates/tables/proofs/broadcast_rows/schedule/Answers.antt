@@ -1,0 +1,9 @@
+use mathlib.Core.Path.{ap, ◌∙◌}
+use Rattle.records.specs.declared.Broadcast.{Broadcast}
+use Rattle.tables.proofs.BroadcastRows.{row}
+use borrow.Author.Rules.{rules}
+use Rattle.tables.proofs.broadcast_rows.schedule.Goals as goal
+
+pub returns : goal.returns
+returns c =
+    c.schedule_of.ensures ∙ ap (λ (b : Broadcast). b.schedule) (row c.args.w.now c.args.i c.requires)

@@ -1,0 +1,8 @@
+use mathlib.Core.Path.{ap}
+use Rattle.records.specs.declared.Unicast.{Unicast}
+use Rattle.tables.proofs.UnicastRows.{row}
+use borrow.Author.Rules.{rules}
+use Rattle.tables.proofs.unicast_rows.deadline.Goals as goal
+
+pub returns : goal.returns
+returns c = ap (λ (u : Unicast). u.deadline) (row c.args.w.now c.args.i c.requires)

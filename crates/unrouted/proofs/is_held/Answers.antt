@@ -1,0 +1,25 @@
+use Prim.Native.Nat.{ℕ}
+use mathlib.Core.Path.{sym, ◌∙◌}
+use mathlib.Core.Bool.{Bool}
+use lib.Dec.{eqb}
+use Rattle.records.specs.Records.{blank_destination, destination_address}
+use Rattle.records.specs.declared.Destination.{Destination}
+use Rattle.rows.specs.Tables.{live}
+use Rattle.rows.specs.Moves.Turn.{Keeps}
+use Rattle.tables.specs.Layouts.{destination_table}
+use Rattle.rows.proofs.Promises.{here-some, nowhere-none, find_first, first_found, first-missed}
+use borrow.Author.Rules.{rules}
+use Rattle.unrouted.proofs.is_held.Goals as goal
+
+abbrev held_at : ℕ → Destination → Bool
+held_at d h = eqb h.address d
+
+pub returns-in-Here : goal.returns-in-Here
+returns-in-Here c =
+    sym (first_found (held_at c.args.destination) Keeps blank_destination (live destination_table c.args.d.now c.args.k) _ (sym (find_first destination_address c.args.destination (live destination_table c.args.d.now c.args.k))
+    ∙ here-some _ _ (sym c.in-Here.is ∙ c.find.ensures))).any
+
+pub returns-in-Nowhere : goal.returns-in-Nowhere
+returns-in-Nowhere c =
+    sym (first-missed (held_at c.args.destination) Keeps (live destination_table c.args.d.now c.args.k) (sym (find_first destination_address c.args.destination (live destination_table c.args.d.now c.args.k))
+    ∙ nowhere-none _ (sym c.in-Nowhere.is ∙ c.find.ensures))).any

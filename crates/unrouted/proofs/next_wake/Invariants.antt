@@ -1,0 +1,18 @@
+use Prim.Native.Nat.{◌≤◌}
+use native.Mathlib.Omega.{arith}
+use mathlib.Core.Path.{◌≡◌, ap, ◌∙◌}
+use lib.ListN.{drop}
+use Rattle.records.specs.Times.{sooner}
+use Rattle.rows.specs.Lists.{fold}
+use Rattle.rows.specs.Tables.{live}
+use Rattle.tables.specs.Layouts.{unrouted_table}
+use Rattle.unrouted.specs.Types.{Unrouted, UnroutedHead, Opt64, None64}
+use Rattle.rows.proofs.Promises.{fold_start, fold-turn, fold_end}
+use borrow.Author.Rules.{rules}
+use Rattle.unrouted.proofs.next_wake.Given as goal
+
+abbrev pub invariant-loop-i : goal.invariant-loop-i
+invariant-loop-i l = (l.i ≤ l.n) × (l.wake ≡ fold (λ (u : Unrouted) (o : Opt64). sooner u.deadline o) None64 (drop l.i (live unrouted_table l.w l.n)))
+
+abbrev pub decreases-loop-i : goal.decreases-loop-i
+decreases-loop-i l = l.i

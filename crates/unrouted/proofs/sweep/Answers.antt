@@ -1,0 +1,27 @@
+use Prim.Native.Nat.{◌-◌}
+use native.Mathlib.Omega.{arith}
+use mathlib.Core.Bool.{false}
+use Rattle.records.specs.Records.{unrouted_entry}
+use Rattle.tables.specs.Layouts.{unrouted_table}
+use Rattle.actions.proofs.Sweeps.{Sweeping, sweep-start, sweep-quiet, sweep-goes, sweep-end}
+use Rattle.unrouted.specs.Types.{None16, Failure}
+use Rattle.unrouted.specs.Rules.{sweep_turn}
+use Rattle.unrouted.proofs.Turns.{row_at, tested, turn-chosen, turn-left}
+use borrow.Author.Rules.{rules}
+use Rattle.unrouted.proofs.sweep.Goals as goal
+
+pub loop-i-preserved-then-chosen : goal.loop-i-preserved-then-chosen
+loop-i-preserved-then-chosen c =
+    let at = c.loop-i in
+    let e = tested c.args.which (row_at at.w at.i) c.head.ensures c.chosen.ensures c.if-chosen.true in
+    sweep-goes at.invariant false (Failure c.failure.result) None16 (omega arith) (turn-chosen c.args.which (row_at at.w at.i) e c.failure.ensures)
+    c.drop_at-m.ensures.table c.drop_at-m.ensures.tells
+
+pub loop-i-preserved : goal.loop-i-preserved
+loop-i-preserved c =
+    let at = c.loop-i in
+    let e = tested c.args.which (row_at at.w at.i) c.head.ensures c.chosen.ensures c.if-chosen.false in
+    sweep-quiet at.invariant (omega arith) (turn-left c.args.which (row_at at.w at.i) e)
+
+pub returns : goal.returns
+returns c = sweep-end c.loop-i.invariant (omega arith)

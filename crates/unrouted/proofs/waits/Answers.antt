@@ -1,0 +1,17 @@
+use mathlib.Core.Path.{sym, ◌∙◌}
+use Rattle.records.specs.Records.{blank_unrouted}
+use Rattle.rows.specs.Tables.{live}
+use Rattle.rows.specs.Moves.Turn.{Keeps}
+use Rattle.tables.specs.Layouts.{unrouted_table}
+use Rattle.unrouted.specs.Rules.{goes_to}
+use Rattle.rows.proofs.Promises.{here-some, nowhere-none, first_found, first-missed}
+use borrow.Author.Rules.{rules}
+use Rattle.unrouted.proofs.waits.Goals as goal
+
+pub returns-in-Here : goal.returns-in-Here
+returns-in-Here c =
+    sym (first_found (goes_to c.args.destination) Keeps blank_unrouted (live unrouted_table c.args.w.now c.args.n) _ (here-some _ _ (sym c.in-Here.is ∙ c.first_to.ensures))).any
+
+pub returns-in-Nowhere : goal.returns-in-Nowhere
+returns-in-Nowhere c =
+    sym (first-missed (goes_to c.args.destination) Keeps (live unrouted_table c.args.w.now c.args.n) (nowhere-none _ (sym c.in-Nowhere.is ∙ c.first_to.ensures))).any
