@@ -34,7 +34,7 @@ run-balances {m} s (c ∷ cs) p =
     omega (
       arith,
       (lawful s c).sum p,
-      run-balances (step-sound s c) cs p,
+      run-balances {m = o.model} (step-sound s c) cs p,
       count-append p (issued_by c o) (ever_issued h),
       count-append p (settled_by o) (ever_settled h),
       count-append p (listed_by o) (ever_listed h),
@@ -74,7 +74,7 @@ ordered {m} s (c ∷ cs) =
     let new : List Entry = issued_by c o in
     let more : List Entry = ever_issued (history o.model cs) in
     let l = lawful s c in
-    let r = ordered (step-sound s c) cs in
+    let r = ordered {m = o.model} (step-sound s c) cs in
     record {
       ids-are = ids-on new more
           ∙ (ap (λ (x : List ℕ). x ++ ids more) l.ids

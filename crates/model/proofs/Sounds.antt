@@ -357,7 +357,7 @@ module _ {m : Model} (s : SoundModel m) where
 
 pub after-sound : {m : Model} → SoundModel m → (cs : List Call) → SoundModel (after m cs)
 after-sound s [] = s
-after-sound s (c ∷ cs) = after-sound (step-sound s c) cs
+after-sound {m = m} s (c ∷ cs) = after-sound {m = (step_of m c).model} (step-sound s c) cs
 
 pub reached-sound : (first : ℕ) → first ≤ no_id → (cs : List Call) → SoundModel (after (fresh_of first) cs)
 reached-sound first l cs = after-sound (fresh-sound first l) cs

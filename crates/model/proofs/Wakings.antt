@@ -78,5 +78,5 @@ wake-is-least m =
     least-append (unicast_wakes m) (unrouted_wakes m ++ broadcast_wakes m) (unis.wake_of m.unicasts) (soonest (unr.wake_of m.unrouted) (bro.wake_of m.broadcasts))
     (least-table _ unis.wake_step (λ u. unicast-least u.deadline u.stage) m.unicasts)
     (least-append (unrouted_wakes m) (broadcast_wakes m) (unr.wake_of m.unrouted) (bro.wake_of m.broadcasts)
-    (least-table _ _ (λ u. least-one u.deadline) m.unrouted)
+    (least-table (λ u. u.deadline ∷ []) _ (λ u. least-one u.deadline) m.unrouted)
     (least-table _ bro.wake_step (λ b. broadcast-least b b.copy) m.broadcasts))

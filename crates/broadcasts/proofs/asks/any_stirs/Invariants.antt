@@ -1,0 +1,19 @@
+use Rattle.rows.proofs.Promises.{scan-first, scan-here, scan-on, scan-end}
+use Rattle.rows.specs.Moves.{first_at, place_from}
+use Rattle.rows.specs.Tables.{live}
+use Rattle.rows.specs.Lists.{place_at}
+use Rattle.tables.specs.Layouts.{broadcast_table}
+use Rattle.casting.specs.Rules.{may_stir}
+use Rattle.broadcasts.proofs.Places.{said, any-there, any_none}
+use lib.ListN.{drop}
+use mathlib.Core.Path.{◌≡◌}
+use native.Mathlib.Omega.{arith}
+use Prim.Native.Nat.{◌-◌, ◌≤◌}
+use borrow.Author.Rules.{rules}
+use Rattle.broadcasts.proofs.asks.any_stirs.Given as goal
+
+abbrev pub invariant-loop-i : goal.invariant-loop-i
+invariant-loop-i l = (l.i ≤ l.n) × (place_from (may_stir l.clock) l.i (drop l.i (live broadcast_table l.w l.n)) ≡ place_at (first_at (may_stir l.clock) (live broadcast_table l.w l.n)))
+
+abbrev pub decreases-loop-i : goal.decreases-loop-i
+decreases-loop-i l = l.n - l.i

@@ -1,0 +1,18 @@
+use Rattle.broadcasts.proofs.Found.{missed-is, found_lt, found-is}
+use Rattle.casting.specs.Rules.{in_radio, in_radio_by}
+use Rattle.casting.specs.Types.{BroadcastHead}
+use native.Mathlib.Omega.{arith}
+use mathlib.Core.Path.{refl, sym, ap, ◌∙◌}
+use borrow.Author.Rules.{rules}
+use Rattle.broadcasts.proofs.asks.is_transmitting.Goals as goal
+
+pub head-h-requires : goal.head-h-requires
+head-h-requires c = omega (arith, found_lt c.requires _ (sym c.in-Here.is ∙ c.find.ensures), c.requires.within)
+
+pub returns-in-Nowhere : goal.returns-in-Nowhere
+returns-in-Nowhere c = sym (ap in_radio_by (missed-is c.requires _ (sym c.in-Nowhere.is ∙ c.find.ensures)))
+
+pub returns-in-Here : goal.returns-in-Here
+returns-in-Here c =
+    c.in_radio.ensures ∙ ap (λ (h : BroadcastHead). in_radio h.copy) c.head-h.ensures
+    ∙ sym (ap in_radio_by (found-is c.requires _ (sym c.in-Here.is ∙ c.find.ensures) refl))

@@ -1,0 +1,17 @@
+use Rattle.casting.specs.Rules.{wake_head, wake_step, wake_of}
+use Rattle.casting.specs.Types.{BroadcastHead, None64}
+use Rattle.rows.proofs.Promises.{fold_start, fold-turn, fold_end}
+use Rattle.tables.specs.Layouts.{broadcast_table}
+use Rattle.rows.specs.Tables.{live}
+use lib.ListN.{drop}
+use mathlib.Core.Path.{◌≡◌, ap, ◌∙◌}
+use native.Mathlib.Omega.{arith}
+use Prim.Native.Nat.{◌≤◌}
+use borrow.Author.Rules.{rules}
+use Rattle.broadcasts.proofs.asks.next_wake.Given as goal
+
+abbrev pub invariant-loop-i : goal.invariant-loop-i
+invariant-loop-i l = (l.i ≤ l.n) × (l.wake ≡ wake_of (drop l.i (live broadcast_table l.w l.n)))
+
+abbrev pub decreases-loop-i : goal.decreases-loop-i
+decreases-loop-i l = l.i

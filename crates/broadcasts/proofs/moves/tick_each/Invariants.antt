@@ -1,0 +1,17 @@
+use Rattle.casting.proofs.Scans.{row_at, stirs-tested}
+use Rattle.broadcasts.proofs.Plays.{played-count, sweep-played}
+use Rattle.casting.proofs.Ticks.{quiet}
+use Rattle.casting.specs.Rules.{tick_turn}
+use Rattle.actions.proofs.Sweeps.{Sweeping, sweep-start, sweep-quiet, sweep-end}
+use Rattle.tables.specs.Layouts.{broadcast_table}
+use Rattle.records.specs.Records.{broadcast_entry}
+use native.Mathlib.Omega.{arith}
+use Prim.Native.Nat.{◌-◌}
+use borrow.Author.Rules.{rules}
+use Rattle.broadcasts.proofs.moves.tick_each.Given as goal
+
+abbrev pub invariant-loop-i : goal.invariant-loop-i
+invariant-loop-i l = Sweeping broadcast_table broadcast_entry (tick_turn l.clock) l.initial.w l.sends l.initial.told l.at l.w l.n l.told l.m l.i
+
+abbrev pub decreases-loop-i : goal.decreases-loop-i
+decreases-loop-i l = l.n - l.i

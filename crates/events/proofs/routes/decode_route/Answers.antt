@@ -1,0 +1,17 @@
+use borrow.Author.Tests.{lt-ltb, le-ltb}
+use Rattle.events.specs.Routes.{route_of}
+use Rattle.events.specs.Types.{OnRoute}
+use borrow.Author.Rules.{rules}
+use Rattle.events.proofs.routes.decode_route.Goals as goal
+
+pub returns-then-count-gt16 : goal.returns-then-count-gt16
+unfolding route_of
+returns-then-count-gt16 c = rw (← c.byte_at-count.ensures, lt-ltb _ _ c.if-count-gt16.true)
+
+pub returns-then-entries_right : goal.returns-then-entries_right
+unfolding route_of
+returns-then-entries_right c = rw (← c.byte_at-count.ensures, le-ltb _ _ c.if-count-gt16.false, ← c.entries_right.ensures, c.if-entries_right.true) (λ k. OnRoute (c.u64_at-clock.ensures k) (c.u16_at-destination.ensures k) c.byte_at-count.result)
+
+pub returns-else-entries_right : goal.returns-else-entries_right
+unfolding route_of
+returns-else-entries_right c = rw (← c.byte_at-count.ensures, le-ltb _ _ c.if-count-gt16.false, ← c.entries_right.ensures, c.if-entries_right.false)

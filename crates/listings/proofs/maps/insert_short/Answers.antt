@@ -1,0 +1,8 @@
+use Prim.Native.Nat.{◌-◌}
+use native.Mathlib.Omega.{arith}
+use Rattle.listings.proofs.Inserts.{Carrying, carry-start, carry-turn, carry-end}
+use borrow.Author.Rules.{rules}
+use Rattle.listings.proofs.maps.insert_short.Goals as goal
+
+pub loop-i-preserved : goal.loop-i-preserved
+loop-i-preserved c = carry-turn c.loop-i.invariant (omega arith) (omega (arith, c.requires))

@@ -1,0 +1,12 @@
+-- What is carried on moves the rest up by one.
+use Prim.Native.Nat.{◌-◌}
+use native.Mathlib.Omega.{arith}
+use Rattle.listings.proofs.Inserts.{Carrying, carry-start, carry-turn, carry-end}
+use borrow.Author.Rules.{rules}
+use Rattle.listings.proofs.maps.insert_short.Given as goal
+
+abbrev pub invariant-loop-i : goal.invariant-loop-i
+invariant-loop-i l = Carrying l.n l.p l.y l.initial.nwk l.nwk l.carry l.i
+
+abbrev pub decreases-loop-i : goal.decreases-loop-i
+decreases-loop-i l = l.n - l.i

@@ -1,0 +1,16 @@
+use Prim.Native.Nat.{◌-◌}
+use native.Mathlib.Omega.{arith}
+use Rattle.listings.specs.Listings.{long_item, long_items}
+use Rattle.listings.proofs.Puttings.{Putting, put-start, put-turn, put-room, put-end, map-count, map-item}
+use borrow.Author.Rules.{rules}
+use Rattle.listings.proofs.put_longs.Goals as goal
+
+pub put_extended-next-requires : goal.put_extended-next-requires
+put_extended-next-requires c =
+    let e = map-item long_item c.args.xs.now c.args.n c.loop-i.i (omega (arith, c.requires)) (omega arith) in
+    put-room c.loop-i.invariant (omega arith) e c.requires.n_in_bounds_2
+
+pub loop-i-preserved : goal.loop-i-preserved
+loop-i-preserved c =
+    let e = map-item long_item c.args.xs.now c.args.n c.loop-i.i (omega (arith, c.requires)) (omega arith) in
+    put-turn c.loop-i.invariant (omega arith) e c.put_extended-next.ensures

@@ -1,0 +1,11 @@
+use Prim.Native.Nat.{◌-◌}
+use native.Mathlib.Omega.{arith}
+use Rattle.replies.proofs.Parts.{Putting, put-start, put-turn, put-room, put-end}
+use borrow.Author.Rules.{rules}
+use Rattle.replies.proofs.put_actions.Goals as goal
+
+pub put_action-next-requires : goal.put_action-next-requires
+put_action-next-requires c = put-room c.loop-i.invariant (omega arith) c.action_at-a.ensures c.requires.1
+
+pub loop-i-preserved : goal.loop-i-preserved
+loop-i-preserved c = put-turn c.loop-i.invariant (omega arith) c.action_at-a.ensures c.put_action-next.ensures

@@ -1,0 +1,19 @@
+use Rattle.rows.proofs.Promises.{scan-first, scan-here, scan-on, scan-end}
+use Rattle.rows.specs.Moves.{first_at, place_from}
+use Rattle.rows.specs.Lists.{place_at}
+use lib.ListN.{drop}
+use Rattle.sending.specs.Rules.{awaits}
+use Rattle.scanning.proofs.Scans.{row_at, sends}
+use Prim.Native.Nat.{◌-◌, ◌≤◌}
+use native.Mathlib.Omega.{arith}
+use Rattle.scanning.proofs.Places.{said}
+use mathlib.Core.Path.{◌≡◌}
+use borrow.Author.Rules.{rules}
+use Rattle.scanning.proofs.asks.first_awaited.Given as goal
+
+abbrev pub invariant-loop-k : goal.invariant-loop-k
+invariant-loop-k l =
+    (l.k ≤ l.n) × (place_from (awaits l.eui l.nwk l.clock) l.k (drop l.k (sends l.w l.n)) ≡ place_at (first_at (awaits l.eui l.nwk l.clock) (sends l.w l.n)))
+
+abbrev pub decreases-loop-k : goal.decreases-loop-k
+decreases-loop-k l = l.n - l.k

@@ -1,0 +1,18 @@
+use Rattle.rows.proofs.Promises.{fold_start, fold-turn, fold_end}
+use Rattle.rows.specs.Lists.{fold}
+use lib.ListN.{drop}
+use Rattle.sending.specs.Lists.{wake_step}
+use Rattle.sending.specs.Rules.{wake_head}
+use Rattle.sending.specs.Types.{UnicastHead, None64}
+use Rattle.scanning.proofs.Scans.{sends}
+use Prim.Native.Nat.{◌-◌, ◌≤◌}
+use native.Mathlib.Omega.{arith}
+use mathlib.Core.Path.{◌≡◌, ap, ◌∙◌}
+use borrow.Author.Rules.{rules}
+use Rattle.scanning.proofs.asks.next_wake.Given as goal
+
+abbrev pub invariant-loop-left : goal.invariant-loop-left
+invariant-loop-left l = (l.left ≤ l.n) × (l.wake ≡ fold (wake_step) None64 (drop l.left (sends l.w l.n)))
+
+abbrev pub decreases-loop-left : goal.decreases-loop-left
+decreases-loop-left l = l.left

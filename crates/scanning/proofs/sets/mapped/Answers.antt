@@ -1,0 +1,14 @@
+use Rattle.sending.proofs.Members.{map-out, map-here, map_on, map-end}
+use Rattle.sending.specs.Members.{mapped_in}
+use lib.ListN.{length, drop}
+use Prim.Native.Nat.{◌-◌, ◌≤◌}
+use native.Mathlib.Omega.{arith}
+use mathlib.Core.Path.{◌≡◌, refl}
+use borrow.Author.Rules.{rules}
+use Rattle.scanning.proofs.sets.mapped.Goals as goal
+
+pub returns-then-l-i : goal.returns-then-l-i
+returns-then-l-i c = map-out c.args.x c.args.eui.now c.args.nwk.now c.loop-i.i c.loop-i.invariant.1 (omega arith) c.if-l-i.true
+
+pub loop-i-preserved : goal.loop-i-preserved
+loop-i-preserved c = (omega arith, map_on c.args.x c.args.eui.now c.args.nwk.now c.loop-i.i c.loop-i.invariant.1 (omega arith) (omega arith) c.if-eui-i.false)

@@ -1,0 +1,33 @@
+use Rattle.sending.specs.Rules.{with_stage, sweep_turn}
+use Rattle.sending.specs.Types.{None16, Failure, Queued}
+use Rattle.sending.specs.declared.Due.TheVariants.{Leave, Requeue, Finish}
+use Rattle.actions.proofs.Sweeps.{Sweeping, sweep-start, sweep-quiet, sweep-stays, sweep-goes, sweep-end}
+use Rattle.tables.specs.Layouts.{unicast_table}
+use Rattle.scanning.proofs.Scans.{row_at}
+use Rattle.records.specs.Records.{unicast_entry}
+use Rattle.sending.proofs.Turns.{due-is}
+use Prim.Native.Nat.{◌-◌}
+use native.Mathlib.Omega.{arith}
+use borrow.Author.Rules.{rules}
+use Rattle.unicasts.proofs.calls.sweep.Goals as goal
+
+pub loop-i-preserved-in-Leave : goal.loop-i-preserved-in-Leave
+loop-i-preserved-in-Leave c =
+    let at = c.loop-i in
+    sweep-quiet at.invariant (omega arith) (due-is c.args.which (row_at at.w at.i) Leave c.head.ensures c.due_of.ensures c.in-Leave.is)
+
+pub loop-i-preserved-in-Requeue : goal.loop-i-preserved-in-Requeue
+loop-i-preserved-in-Requeue c =
+    let at = c.loop-i in
+    sweep-stays at.invariant (with_stage (row_at at.w at.i) Queued) (omega arith)
+    (due-is c.args.which (row_at at.w at.i) Requeue c.head.ensures c.due_of.ensures c.in-Requeue.is) c.requeue.ensures
+
+pub loop-i-preserved : goal.loop-i-preserved
+loop-i-preserved c =
+    let at = c.loop-i in
+    sweep-goes at.invariant c.in-Finish.again (Failure c.in-Finish.f) None16 (omega arith)
+    (due-is c.args.which (row_at at.w at.i) (Finish c.in-Finish.again c.in-Finish.f) c.head.ensures c.due_of.ensures c.in-Finish.is)
+    c.finish-m.ensures.table c.finish-m.ensures.tells
+
+pub returns : goal.returns
+returns c = sweep-end c.loop-i.invariant (omega arith)

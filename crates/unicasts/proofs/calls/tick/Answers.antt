@@ -1,0 +1,11 @@
+use mathlib.Core.Path.{sym, ◌∙◌}
+use Rattle.actions.proofs.Sweeps.{swept_none}
+use Rattle.sending.specs.Rules.{stirs}
+use Rattle.sending.proofs.Turns.{sweep-tick, tick-rests}
+use Rattle.unicasts.proofs.Tables.{swept_as}
+use borrow.Author.Rules.{rules}
+use Rattle.unicasts.proofs.calls.tick.Goals as goal
+
+pub returns : goal.returns
+returns c =
+    swept_none (stirs c.args.clock) (tick-rests c.args.clock) c.requires.held (sym c.any_stirs.ensures ∙ c.if-any_stirs.false)
