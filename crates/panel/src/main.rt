@@ -2,11 +2,13 @@
 // one that it sends. Each call is printed with its answer and its actions, as they come.
 #![tactic(auto)]
 
-ghost use Rattle.std.specs.Prelude.{◌≡◌, ◌≤◌};
+ghost use Rattle.std.specs.Prelude.{◌≡◌, ◌≤◌, IfOk};
 ghost use Rattle.model.specs.Sound.{Sound};
 
 use model::{Answer, Answered, Lender, NewUnicast, Sends, Transmit};
 use records::{Action, Address, Confirm, Opt16, Opt64, Priority, TxResult, Verdict};
+use std::io;
+use std::io::Print;
 
 mod words;
 
@@ -36,36 +38,36 @@ fn lights(a: Action) -> bool {
 }
 
 // Prints the first n actions told; answers whether the tick is lit after them.
-fn show_actions(told: &[u64; 560], n: usize, lit: bool) -> bool
+fn show_actions(rt: &impl Print, told: &[u64; 560], n: usize, lit: bool) -> io::Result<bool>
     requires { n ≤ 112 }
 {
     let mut lit = lit;
     let mut i: usize = 0;
     while i < n {
         let a = actions::action_at(told, i);
-        words::action(a);
+        words::action(rt, a)?;
         if lights(a) {
             lit = true;
         }
         i = i + 1;
     }
-    lit
+    Ok(lit)
 }
 
 // After a call: its answer is printed, its actions are done, its tables are kept.
-fn heard(x: Answered, told: &[u64; 560], lit: bool) -> Gateway
+fn heard(rt: &impl Print, x: Answered, told: &[u64; 560], lit: bool) -> io::Result<Gateway>
     requires { x.told ≤ 112 }
-    ensures { result.sends ≡ x.sends }
+    ensures { IfOk result (λ g. g.sends ≡ x.sends) }
 {
     let s = x.sends;
     let a = x.answer;
-    words::said(a);
-    words::count(x.told);
-    let now_lit = show_actions(told, x.told, lit);
-    Gateway {
+    words::said(rt, a)?;
+    words::count(rt, x.told)?;
+    let now_lit = show_actions(rt, told, x.told, lit)?;
+    Ok(Gateway {
         sends: s,
         lit: now_lit,
-    }
+    })
 }
 
 // The update: its waiter is told once the panel has it, or that it never will.
@@ -80,13 +82,13 @@ fn update() -> NewUnicast {
     }
 }
 
-fn enqueue(g: Gateway, told: &mut [u64; 560], clock: u64) -> Gateway
+fn enqueue(rt: &impl Print, g: Gateway, told: &mut [u64; 560], clock: u64) -> io::Result<Gateway>
     requires { Sound g.sends }
-    ensures { Sound result.sends }
+    ensures { IfOk result (λ h. Sound h.sends) }
 {
     let s = g.sends;
-    words::call(clock, b"enqueue_unicast of an update for ");
-    words::address(Address::Extended(PANEL));
+    words::call(rt, clock, b"enqueue_unicast of an update for ")?;
+    words::address(rt, Address::Extended(PANEL))?;
     let x = sends::enqueue_unicast(
         s,
         told,
@@ -94,29 +96,29 @@ fn enqueue(g: Gateway, told: &mut [u64; 560], clock: u64) -> Gateway
         update(),
         clock,
     );
-    heard(x, told, g.lit)
+    heard(rt, x, told, g.lit)
 }
 
 // A device polls under its extended address.
-fn poll(g: Gateway, told: &mut [u64; 560], device: u64, clock: u64) -> Gateway
+fn poll(rt: &impl Print, g: Gateway, told: &mut [u64; 560], device: u64, clock: u64) -> io::Result<Gateway>
     requires { Sound g.sends }
-    ensures { Sound result.sends }
+    ensures { IfOk result (λ h. Sound h.sends) }
 {
     let s = g.sends;
-    words::call(clock, b"poll by ");
-    words::address(Address::Extended(device));
+    words::call(rt, clock, b"poll by ")?;
+    words::address(rt, Address::Extended(device))?;
     let x = sends::poll(s, told, Opt64::Some64(device), Opt16::None16, clock);
-    heard(x, told, g.lit)
+    heard(rt, x, told, g.lit)
 }
 
-fn tick(g: Gateway, told: &mut [u64; 560], clock: u64) -> Gateway
+fn tick(rt: &impl Print, g: Gateway, told: &mut [u64; 560], clock: u64) -> io::Result<Gateway>
     requires { Sound g.sends }
-    ensures { Sound result.sends }
+    ensures { IfOk result (λ h. Sound h.sends) }
 {
     let s = g.sends;
-    words::call(clock, b"tick");
+    words::call(rt, clock, b"tick")?;
     let x = sends::tick(s, told, clock);
-    heard(x, told, g.lit)
+    heard(rt, x, told, g.lit)
 }
 
 // The table that lent a frame, as the report must name it.
@@ -129,6 +131,7 @@ fn lender(how: Transmit) -> Lender {
 
 // The radio's report. The delay before a next attempt is not used here: the panel's next poll decides when that is.
 fn transmitted(
+    rt: &impl Print,
     g: Gateway,
     told: &mut [u64; 560],
     from: Lender,
@@ -136,93 +139,94 @@ fn transmitted(
     frame: u32,
     report: TxResult,
     clock: u64,
-) -> Gateway
+) -> io::Result<Gateway>
     requires { Sound g.sends }
-    ensures { Sound result.sends }
+    ensures { IfOk result (λ h. Sound h.sends) }
 {
     let s = g.sends;
-    words::call(clock, b"transmitted");
-    words::report(id, frame, report);
+    words::call(rt, clock, b"transmitted")?;
+    words::report(rt, id, frame, report)?;
     let x = sends::transmitted(s, told, from, id, frame, report, clock, 0);
-    heard(x, told, g.lit)
+    heard(rt, x, told, g.lit)
 }
 
 // The radio is free at `clock`: it is lent what goes next, and reports on that, and only on that, at `later`.
 fn serve_radio(
+    rt: &impl Print,
     g: Gateway,
     told: &mut [u64; 560],
     report: TxResult,
     clock: u64,
     later: u64,
-) -> Gateway
+) -> io::Result<Gateway>
     requires { Sound g.sends }
-    ensures { Sound result.sends }
+    ensures { IfOk result (λ h. Sound h.sends) }
 {
     let s = g.sends;
-    words::call(clock, b"dequeue");
+    words::call(rt, clock, b"dequeue")?;
     let x = sends::dequeue(s, told, clock);
     let a = x.answer;
-    let h = heard(x, told, g.lit);
+    let h = heard(rt, x, told, g.lit)?;
     match a {
         Answer::InFlight(id, frame, how) => {
-            transmitted(h, told, lender(how), id, frame, report, later)
+            transmitted(rt, h, told, lender(how), id, frame, report, later)
         }
-        _ => h,
+        _ => Ok(h),
     }
 }
 
 // What the driver may ask at any time: whether the panel has a frame here, and when the timer must call the next tick.
-fn show_state(s: Sends, clock: u64)
+fn show_state(rt: &impl Print, s: Sends, clock: u64) -> io::Result<()>
     requires { Sound s }
 {
-    words::call(clock, b"has_unicast_awaiting_poll of ");
-    words::address(Address::Extended(PANEL));
-    words::replied(sends::asks::has_unicast_awaiting_poll(s, Address::Extended(PANEL)));
-    words::call(clock, b"next_wake");
-    words::wake(sends::asks::next_wake(s));
+    words::call(rt, clock, b"has_unicast_awaiting_poll of ")?;
+    words::address(rt, Address::Extended(PANEL))?;
+    words::replied(rt, sends::asks::has_unicast_awaiting_poll(s, Address::Extended(PANEL)))?;
+    words::call(rt, clock, b"next_wake")?;
+    words::wake(rt, sends::asks::next_wake(s))
 }
 
 // Both runs begin alike: the update waits while the panel sleeps, and is queued as the panel polls.
-fn begin(told: &mut [u64; 560]) -> Gateway
-    ensures { Sound result.sends }
+fn begin(rt: &impl Print, told: &mut [u64; 560]) -> io::Result<Gateway>
+    ensures { IfOk result (λ h. Sound h.sends) }
 {
     let empty = Gateway {
         sends: sends::asks::fresh(0),
         lit: false,
     };
-    let entered = enqueue(empty, told, 0);
+    let entered = enqueue(rt, empty, told, 0)?;
     let s = entered.sends;
-    show_state(s, 0);
-    let slept = serve_radio(entered, told, TxResult::Sent, 100, 104);
-    poll(slept, told, PANEL, 2000)
+    show_state(rt, s, 0)?;
+    let slept = serve_radio(rt, entered, told, TxResult::Sent, 100, 104)?;
+    poll(rt, slept, told, PANEL, 2000)
 }
 
 // The transmit fails and the panel does not poll again: the update waits, and no dequeue finds it, until its time is over.
-fn failing(told: &mut [u64; 560]) {
-    words::text(b"Run 1: the radio fails.\n");
-    let polled = begin(told);
-    let failed = serve_radio(polled, told, TxResult::Failed(233), 2001, 2005);
+fn failing(rt: &impl Print, told: &mut [u64; 560]) -> io::Result<()> {
+    words::text(rt, b"Run 1: the radio fails.\n")?;
+    let polled = begin(rt, told)?;
+    let failed = serve_radio(rt, polled, told, TxResult::Failed(233), 2001, 2005)?;
     let s = failed.sends;
-    show_state(s, 2005);
-    let waiting = serve_radio(failed, told, TxResult::Sent, 2010, 2014);
-    let early = tick(waiting, told, 7679);
-    let expired = tick(early, told, 7680);
+    show_state(rt, s, 2005)?;
+    let waiting = serve_radio(rt, failed, told, TxResult::Sent, 2010, 2014)?;
+    let early = tick(rt, waiting, told, 7679)?;
+    let expired = tick(rt, early, told, 7680)?;
     let t = expired.sends;
-    show_state(t, 7680);
-    words::light(expired.lit);
+    show_state(rt, t, 7680)?;
+    words::light(rt, expired.lit)
 }
 
-fn working(told: &mut [u64; 560]) {
-    words::text(b"\n_run 2: the radio works.\n");
-    let polled = begin(told);
-    let sent = serve_radio(polled, told, TxResult::Sent, 2001, 2005);
+fn working(rt: &impl Print, told: &mut [u64; 560]) -> io::Result<()> {
+    words::text(rt, b"\nRun 2: the radio works.\n")?;
+    let polled = begin(rt, told)?;
+    let sent = serve_radio(rt, polled, told, TxResult::Sent, 2001, 2005)?;
     let s = sent.sends;
-    show_state(s, 2005);
-    words::light(sent.lit);
+    show_state(rt, s, 2005)?;
+    words::light(rt, sent.lit)
 }
 
-fn main() {
+fn main(rt: HostRuntime) -> io::Result<()> {
     let mut told = [0u64; 560];
-    failing(&mut told);
-    working(&mut told);
+    failing(&rt, &mut told)?;
+    working(&rt, &mut told)
 }

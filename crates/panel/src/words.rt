@@ -1,193 +1,194 @@
 // What the calls answer and what the driver must do, in plain words on standard output.
-use libc::STDOUT_FILENO;
 use model::{Answer, Transmit};
 use records::{Action, Address, Entry, Opt16, Opt64, Refusal, SendFailure, TxResult, Verdict};
+use std::io;
+use std::io::Print;
 
-pub(crate) fn text(t: &[u8]) {
-    io::write_all(STDOUT_FILENO, t);
+pub(crate) fn text(rt: &impl Print, t: &[u8]) -> io::Result<()> {
+    rt.write_all(t)
 }
 
-fn number(n: u64) {
-    io::print_decimal(STDOUT_FILENO, n);
+fn number(rt: &impl Print, n: u64) -> io::Result<()> {
+    rt.print(n)
 }
 
 // The head of a line: the time and the call.
-pub(crate) fn call(clock: u64, name: &[u8]) {
-    number(clock);
-    text(b" ms: ");
-    text(name);
+pub(crate) fn call(rt: &impl Print, clock: u64, name: &[u8]) -> io::Result<()> {
+    number(rt, clock)?;
+    text(rt, b" ms: ")?;
+    text(rt, name)
 }
 
 // What the radio reports, as a part of the call.
-pub(crate) fn report(id: u32, frame: u32, x: TxResult) {
-    text(b", id ");
-    number(id as u64);
-    text(b", frame ");
-    number(frame as u64);
+pub(crate) fn report(rt: &impl Print, id: u32, frame: u32, x: TxResult) -> io::Result<()> {
+    text(rt, b", id ")?;
+    number(rt, id as u64)?;
+    text(rt, b", frame ")?;
+    number(rt, frame as u64)?;
     match x {
-        TxResult::Sent => text(b", sent"),
+        TxResult::Sent => text(rt, b", sent"),
         TxResult::Failed(code) => {
-            text(b", failed with code ");
-            number(code as u64);
+            text(rt, b", failed with code ")?;
+            number(rt, code as u64)
         }
     }
 }
 
-fn denied(r: Refusal) {
-    text(b"denied with number ");
-    number(records::numbers::refusal_number(r) as u64);
+fn denied(rt: &impl Print, r: Refusal) -> io::Result<()> {
+    text(rt, b"denied with number ")?;
+    number(rt, records::numbers::refusal_number(r) as u64)
 }
 
-fn flight(id: u32, frame: u32, how: Transmit) {
-    text(b"in flight: id ");
-    number(id as u64);
-    text(b", frame ");
-    number(frame as u64);
+fn flight(rt: &impl Print, id: u32, frame: u32, how: Transmit) -> io::Result<()> {
+    text(rt, b"in flight: id ")?;
+    number(rt, id as u64)?;
+    text(rt, b", frame ")?;
+    number(rt, frame as u64)?;
     match how {
         Transmit::Unicasting(hop, pending) => {
-            text(b", next hop 0x");
-            io::print_hex(STDOUT_FILENO, hop as u64, 4);
-            text(b", another frame pending: ");
-            yes_or_no(pending);
+            text(rt, b", next hop 0x")?;
+            print!(rt; "{hop:04x}")?;
+            text(rt, b", another frame pending: ")?;
+            yes_or_no(rt, pending)
         }
-        Transmit::Broadcasting => text(b", to all"),
+        Transmit::Broadcasting => text(rt, b", to all"),
     }
 }
 
-fn yes_or_no(b: bool) {
+fn yes_or_no(rt: &impl Print, b: bool) -> io::Result<()> {
     if b {
-        text(b"yes");
-        return;
+        text(rt, b"yes")?;
+        return Ok(());
     }
-    text(b"no");
+    text(rt, b"no")
 }
 
 // The answer of a call.
-pub(crate) fn said(a: Answer) {
-    text(b" -> ");
+pub(crate) fn said(rt: &impl Print, a: Answer) -> io::Result<()> {
+    text(rt, b" -> ")?;
     match a {
-        Answer::Denied(r) => denied(r),
-        Answer::Accepted => text(b"accepted"),
+        Answer::Denied(r) => denied(rt, r),
+        Answer::Accepted => text(rt, b"accepted"),
         Answer::Issued(id) => {
-            text(b"id ");
-            number(id as u64);
+            text(rt, b"id ")?;
+            number(rt, id as u64)
         }
-        Answer::Replied(b) => yes_or_no(b),
-        Answer::NothingQueued => text(b"nothing queued"),
-        Answer::InFlight(id, frame, how) => flight(id, frame, how),
+        Answer::Replied(b) => yes_or_no(rt, b),
+        Answer::NothingQueued => text(rt, b"nothing queued"),
+        Answer::InFlight(id, frame, how) => flight(rt, id, frame, how),
     }
 }
 
 // How many actions follow, to end the line.
-pub(crate) fn count(n: usize) {
+pub(crate) fn count(rt: &impl Print, n: usize) -> io::Result<()> {
     if n == 0 {
-        text(b"; nothing to tell\n");
-        return;
+        text(rt, b"; nothing to tell\n")?;
+        return Ok(());
     }
-    text(b"; actions: ");
-    number(n as u64);
-    text(b"\n");
+    text(rt, b"; actions: ")?;
+    number(rt, n as u64)?;
+    text(rt, b"\n")
 }
 
-pub(crate) fn address(a: Address) {
+pub(crate) fn address(rt: &impl Print, a: Address) -> io::Result<()> {
     match a {
-        Address::Absent => text(b"no address"),
+        Address::Absent => text(rt, b"no address"),
         Address::Short(x) => {
-            text(b"0x");
-            io::print_hex(STDOUT_FILENO, x as u64, 4);
+            text(rt, b"0x")?;
+            print!(rt; "{x:04x}")
         }
         Address::Extended(x) => {
-            text(b"0x");
-            io::print_hex(STDOUT_FILENO, x, 16);
+            text(rt, b"0x")?;
+            print!(rt; "{x:016x}")
         }
     }
 }
 
-fn failure(f: SendFailure) {
+fn failure(rt: &impl Print, f: SendFailure) -> io::Result<()> {
     match f {
-        SendFailure::HandoffTimeout => text(b"failed, the mesh did not take it in time"),
-        SendFailure::ApsAckTimeout => text(b"failed, no end-to-end ack came in time"),
+        SendFailure::HandoffTimeout => text(rt, b"failed, the mesh did not take it in time"),
+        SendFailure::ApsAckTimeout => text(rt, b"failed, no end-to-end ack came in time"),
         SendFailure::IndirectExpired(a) => {
-            text(b"failed, expired before the device fetched it: ");
-            address(a);
+            text(rt, b"failed, expired before the device fetched it: ")?;
+            address(rt, a)
         }
-        SendFailure::RouteDiscoveryTimeout => text(b"failed, no route was found in time"),
-        SendFailure::BroadcastQuorumNotReached => text(b"failed, too few heard the broadcast"),
-        SendFailure::Cancelled => text(b"failed, cancelled"),
+        SendFailure::RouteDiscoveryTimeout => text(rt, b"failed, no route was found in time"),
+        SendFailure::BroadcastQuorumNotReached => text(rt, b"failed, too few heard the broadcast"),
+        SendFailure::Cancelled => text(rt, b"failed, cancelled"),
     }
 }
 
-fn verdict(v: Verdict) {
+fn verdict(rt: &impl Print, v: Verdict) -> io::Result<()> {
     match v {
-        Verdict::Success => text(b"success"),
-        Verdict::Failure(f) => failure(f),
+        Verdict::Success => text(rt, b"success"),
+        Verdict::Failure(f) => failure(rt, f),
         Verdict::Code(code) => {
-            text(b"failed with code ");
-            number(code as u64);
+            text(rt, b"failed with code ")?;
+            number(rt, code as u64)
         }
     }
 }
 
-fn last_hop(hop: Opt16) {
+fn last_hop(rt: &impl Print, hop: Opt16) -> io::Result<()> {
     match hop {
-        Opt16::None16 => text(b"\n"),
+        Opt16::None16 => text(rt, b"\n"),
         Opt16::Some16(x) => {
-            text(b", attempts ran out at next hop 0x");
-            io::print_hex(STDOUT_FILENO, x as u64, 4);
-            text(b"\n");
+            text(rt, b", attempts ran out at next hop 0x")?;
+            print!(rt; "{x:04x}")?;
+            text(rt, b"\n")
         }
     }
 }
 
-fn settled(e: Entry, v: Verdict, hop: Opt16) {
-    text(b"    settled: id ");
-    number(e.id as u64);
-    text(b", waiter ");
-    number(e.waiter as u64);
-    text(b", frame ");
-    number(e.frame as u64);
-    text(b": ");
-    verdict(v);
-    last_hop(hop);
+fn settled(rt: &impl Print, e: Entry, v: Verdict, hop: Opt16) -> io::Result<()> {
+    text(rt, b"    settled: id ")?;
+    number(rt, e.id as u64)?;
+    text(rt, b", waiter ")?;
+    number(rt, e.waiter as u64)?;
+    text(rt, b", frame ")?;
+    number(rt, e.frame as u64)?;
+    text(rt, b": ")?;
+    verdict(rt, v)?;
+    last_hop(rt, hop)
 }
 
 // An action, on a line of its own.
-pub(crate) fn action(a: Action) {
+pub(crate) fn action(rt: &impl Print, a: Action) -> io::Result<()> {
     match a {
         Action::HandedOff(id, waiter) => {
-            text(b"    handed off: id ");
-            number(id as u64);
-            text(b", waiter ");
-            number(waiter as u64);
-            text(b": the mesh took it\n");
+            text(rt, b"    handed off: id ")?;
+            number(rt, id as u64)?;
+            text(rt, b", waiter ")?;
+            number(rt, waiter as u64)?;
+            text(rt, b": the mesh took it\n")
         }
-        Action::Settled(e, v, hop) => settled(e, v, hop),
+        Action::Settled(e, v, hop) => settled(rt, e, v, hop),
     }
 }
 
 // The answer of a question: yes or no.
-pub(crate) fn replied(b: bool) {
-    text(b" -> ");
-    yes_or_no(b);
-    text(b"\n");
+pub(crate) fn replied(rt: &impl Print, b: bool) -> io::Result<()> {
+    text(rt, b" -> ")?;
+    yes_or_no(rt, b)?;
+    text(rt, b"\n")
 }
 
 // The answer of a question: when the driver's timer must call the next tick, if ever.
-pub(crate) fn wake(t: Opt64) {
+pub(crate) fn wake(rt: &impl Print, t: Opt64) -> io::Result<()> {
     match t {
-        Opt64::None64 => text(b" -> never\n"),
+        Opt64::None64 => text(rt, b" -> never\n"),
         Opt64::Some64(t) => {
-            text(b" -> at ");
-            number(t);
-            text(b" ms\n");
+            text(rt, b" -> at ")?;
+            number(rt, t)?;
+            text(rt, b" ms\n")
         }
     }
 }
 
-pub(crate) fn light(lit: bool) {
+pub(crate) fn light(rt: &impl Print, lit: bool) -> io::Result<()> {
     if lit {
-        text(b"The green tick lights.\n");
-        return;
+        text(rt, b"The green tick lights.\n")?;
+        return Ok(());
     }
-    text(b"The green tick does not light.\n");
+    text(rt, b"The green tick does not light.\n")
 }

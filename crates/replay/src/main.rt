@@ -3,66 +3,66 @@
 #![tactic(auto)]
 
 use counting::Tally;
-use libc::STDOUT_FILENO;
 use reading::Outcome;
+use std::io;
+use std::io::{Input, Print};
 
 mod cases;
 mod counting;
 mod judging;
 mod reading;
 
-fn text(t: &[u8]) {
-    io::write_all(STDOUT_FILENO, t);
+fn text(rt: &impl Print, t: &[u8]) -> io::Result<()> {
+    rt.write_all(t)
 }
 
-fn number(n: usize) {
-    io::print_decimal(STDOUT_FILENO, n as u64);
+fn number(rt: &impl Print, n: usize) -> io::Result<()> {
+    rt.print(n as u64)
 }
 
-fn spot(file: usize, place: usize) {
-    text(b"file ");
-    number(file);
-    text(b", case ");
-    number(place);
-    text(b"\n");
+fn spot(rt: &impl Print, file: usize, place: usize) -> io::Result<()> {
+    text(rt, b"file ")?;
+    number(rt, file)?;
+    text(rt, b", case ")?;
+    number(rt, place)?;
+    text(rt, b"\n")
 }
 
 // What was counted.
-fn tell(t: Tally) {
-    number(t.cases);
-    text(b" cases, ");
-    number(t.agreed);
-    text(b" agreed\n");
+fn tell(rt: &impl Print, t: Tally) -> io::Result<()> {
+    number(rt, t.cases)?;
+    text(rt, b" cases, ")?;
+    number(rt, t.agreed)?;
+    text(rt, b" agreed\n")?;
     if t.agreed < t.cases {
         let first = t.first;
-        text(b"the first that differs: ");
-        spot(first.file, first.place);
+        text(rt, b"the first that differs: ")?;
+        spot(rt, first.file, first.place)?;
     }
+    Ok(())
 }
 
 // Where the input could not be read on: at a case, or at the head of a file.
-fn damage(t: Tally) {
+fn damage(rt: &impl Print, t: Tally) -> io::Result<()> {
     let here = t.here;
-    text(b"damaged: ");
+    text(rt, b"damaged: ")?;
     if 0 < t.left {
-        spot(here.file, here.place);
-        return;
+        return spot(rt, here.file, here.place);
     }
     if here.file == 0 {
-        text(b"no head at the start\n");
-        return;
+        return text(rt, b"no head at the start\n");
     }
-    text(b"no head after file ");
-    number(here.file);
-    text(b"\n");
+    text(rt, b"no head after file ")?;
+    number(rt, here.file)?;
+    text(rt, b"\n")
 }
 
-fn main() {
-    match reading::walk() {
-        Outcome::Read(t) => tell(t),
+fn main(rt: HostRuntime) -> io::Result<()> {
+    match reading::walk(&mut rt.reader())? {
+        Outcome::Read(t) => tell(&rt, t),
         Outcome::Broken(t) => {
-            tell(t);
-            damage(t);
+            tell(&rt, t)?;
+            damage(&rt, t)
         }
     }
 }

@@ -3,7 +3,9 @@
 
 ghost use Rattle.std.specs.Prelude.{◌≡◌, length};
 
-use libc::{STDIN_FILENO, STDOUT_FILENO};
+use input::read_full;
+use std::io;
+use std::io::{Input, Print};
 
 // One byte more than the longest trace: if it is full, the trace was longer.
 fn space() -> [u8; 65537]
@@ -12,10 +14,10 @@ fn space() -> [u8; 65537]
     [0; 65537]
 }
 
-fn main() {
+fn main(rt: HostRuntime) -> io::Result<()> {
     let mut input = space();
-    let n = io::read_full(STDIN_FILENO, &mut input);
-    let mut output = io::large_buffer();
+    let n = read_full(&mut rt.reader(), &mut input)?;
+    let mut output = [0u8; 65536];
     let m = trace::run(&input[..n], &mut output);
-    io::write_all(STDOUT_FILENO, &output[..m]);
+    rt.write_all(&output[..m])
 }

@@ -17,11 +17,3 @@ pub fn run(trace: &[u8], out: &mut [u8]) -> usize
     }
     walking::walk(trace, out)
 }
-
-// The same for a caller through C: include/sends_run.h.
-#[unsafe(no_mangle)]
-pub extern "C" fn sends_run(trace: &[u8], out: &mut [u8]) -> usize
-    ensures { Ran trace.now out.old result out.new }
-{
-    run(trace, out)
-}

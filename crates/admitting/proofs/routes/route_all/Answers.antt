@@ -1,0 +1,25 @@
+use mathlib.Core.Path.{refl}
+use Prim.Native.Nat.{◌-◌}
+use native.Mathlib.Omega.{arith}
+use Rattle.admitting.proofs.Routings.{Routing, route-start, route-free, route-some, route-more, route-turn, route-end}
+use borrow.Author.Rules.{rules}
+use Rattle.admitting.proofs.routes.route_all.Goals as goal
+
+pub returns-in-Nothing : goal.returns-in-Nothing
+returns-in-Nothing c =
+    let at = c.loop-i in
+    absurd (route-some at.invariant c.requires.routable.there (omega arith) c.take.ensures c.in-Nothing.is)
+
+pub loop-i-preserved : goal.loop-i-preserved
+loop-i-preserved c =
+    let at = c.loop-i in
+    route-turn at.invariant c.requires.routable.there _ _ (omega arith) c.take.ensures c.in-Took.is c.route_one-x.ensures
+
+pub returns : goal.returns
+returns c =
+    route-end c.loop-i.invariant c.requires.routable.there (omega arith) refl refl refl
+
+pub route_one-x-requires-clause-x_bound : goal.route_one-x-requires-clause-x_bound
+route_one-x-requires-clause-x_bound c =
+    let at = c.loop-i in
+    route-free at.invariant c.requires.routable.there _ (omega arith)

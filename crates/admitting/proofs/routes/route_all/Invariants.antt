@@ -1,0 +1,13 @@
+use mathlib.Core.Path.{refl}
+use Prim.Native.Nat.{◌-◌}
+use native.Mathlib.Omega.{arith}
+use Rattle.admitting.proofs.Routings.{Routing, route-start, route-free, route-some, route-more, route-turn, route-end}
+use borrow.Author.Rules.{rules}
+use Rattle.admitting.proofs.routes.route_all.Given as goal
+
+abbrev pub invariant-loop-i : goal.invariant-loop-i
+invariant-loop-i l =
+    Routing l.s l.destination l.clock l.results l.count l.initial.w l.unicasts l.initial.v l.sends l.initial.told l.at l.w l.n l.v l.k l.told l.m l.i
+
+abbrev pub decreases-loop-i : goal.decreases-loop-i
+decreases-loop-i l = l.count - l.i

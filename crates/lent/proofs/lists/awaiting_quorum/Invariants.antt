@@ -1,0 +1,20 @@
+use Prim.Native.Nat.{◌+◌, ◌-◌, ◌≤◌}
+use native.Mathlib.Omega.{arith}
+use mathlib.Core.Path.{refl}
+use mathlib.Core.List.{[], map}
+use lib.ListN.{drop}
+use Rattle.codes.specs.Codes.{quorum_word}
+use Rattle.rows.specs.Tables.{live}
+use Rattle.tables.specs.Layouts.{broadcast_table}
+use Rattle.casting.specs.Rules.{listed, awaited_of}
+use Rattle.lent.proofs.Fillings.{Filling, fill_start, fill-turn, fill_end, key-low, keys-left, keys_none}
+use borrow.Author.Rules.{rules}
+use Rattle.lent.proofs.lists.awaiting_quorum.Given as goal
+
+abbrev pub invariant-loop-i : goal.invariant-loop-i
+invariant-loop-i l =
+    (l.i ≤ l.n)
+    × ((l.m ≤ l.i) × Filling (map quorum_word (awaited_of (drop l.i (live broadcast_table l.b l.n)))) (map quorum_word (awaited_of (live broadcast_table l.b l.n))) l.initial.out l.out l.m)
+
+abbrev pub decreases-loop-i : goal.decreases-loop-i
+decreases-loop-i l = l.n - l.i

@@ -1,0 +1,20 @@
+use Prim.Native.Nat.{◌+◌, ◌-◌, ◌≤◌}
+use native.Mathlib.Omega.{arith}
+use mathlib.Core.Path.{refl}
+use mathlib.Core.List.{[], ◌∷◌, map}
+use lib.ListN.{drop}
+use Rattle.records.specs.Records.{destination_address}
+use Rattle.rows.specs.Tables.{live}
+use Rattle.tables.specs.Layouts.{destination_table}
+use Rattle.lent.proofs.Fillings.{Filling, fill_start, fill_one, fill-turn, fill_end, left-cons, left-none}
+use borrow.Author.Rules.{rules}
+use Rattle.lent.proofs.lists.destinations.Goals as goal
+
+pub loop-i-preserved : goal.loop-i-preserved
+loop-i-preserved c =
+    let at = c.loop-i in
+    let x = c.destination_at-x.result in (
+      omega arith,
+      fill-turn at.invariant.1 (x ∷ []) (map destination_address (drop (at.i + 1) (live destination_table c.args.d.now c.args.k)))
+          (left-cons c.requires destination_address at.i (omega arith) c.destination_at-x.ensures) (fill_one at.out at.i x),
+    )

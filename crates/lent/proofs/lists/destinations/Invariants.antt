@@ -1,0 +1,18 @@
+use Prim.Native.Nat.{◌+◌, ◌-◌, ◌≤◌}
+use native.Mathlib.Omega.{arith}
+use mathlib.Core.Path.{refl}
+use mathlib.Core.List.{[], ◌∷◌, map}
+use lib.ListN.{drop}
+use Rattle.records.specs.Records.{destination_address}
+use Rattle.rows.specs.Tables.{live}
+use Rattle.tables.specs.Layouts.{destination_table}
+use Rattle.lent.proofs.Fillings.{Filling, fill_start, fill_one, fill-turn, fill_end, left-cons, left-none}
+use borrow.Author.Rules.{rules}
+use Rattle.lent.proofs.lists.destinations.Given as goal
+
+abbrev pub invariant-loop-i : goal.invariant-loop-i
+invariant-loop-i l =
+    (l.i ≤ l.k) × Filling (map destination_address (drop l.i (live destination_table l.d l.k))) (map destination_address (live destination_table l.d l.k)) l.initial.out l.out l.i
+
+abbrev pub decreases-loop-i : goal.decreases-loop-i
+decreases-loop-i l = l.k - l.i

@@ -1,0 +1,17 @@
+use Prim.Native.Nat.{◌-◌, ◌≤◌}
+use native.Mathlib.Omega.{arith}
+use Rattle.records.specs.Records.{broadcast_entry}
+use Rattle.tables.specs.Layouts.{broadcast_table}
+use Rattle.lent.proofs.Listings.{Listing, list-start, list-turn, list-end}
+use borrow.Author.Rules.{rules}
+use Rattle.lent.proofs.lists.list_broadcasts.Goals as goal
+
+pub loop-i-preserved : goal.loop-i-preserved
+loop-i-preserved c =
+    let at = c.loop-i in (
+      omega arith,
+      list-turn broadcast_entry c.requires.held c.args.at c.args.list.now at.i _ c.load-u.result c.broadcast_entry-e.result (omega arith) c.load-u.ensures c.broadcast_entry-e.ensures c.list_one.ensures at.invariant.1,
+    )
+
+pub returns : goal.returns
+returns c = list-end broadcast_entry c.requires.held c.args.at c.loop-i.i (omega arith) c.loop-i.invariant.1

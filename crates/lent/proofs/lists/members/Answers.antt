@@ -1,0 +1,32 @@
+use Prim.Native.Nat.{◌-◌}
+use native.Mathlib.Omega.{arith}
+use mathlib.Core.Path.{refl, sym, ◌∙◌}
+use mathlib.Core.List.{[], ◌∷◌}
+use Rattle.rows.specs.Tables.{live}
+use Rattle.rows.proofs.Promises.{held-length}
+use Rattle.tables.specs.Layouts.{unicast_table}
+use Rattle.model.specs.Steps.{members_of}
+use Rattle.doing.specs.Types.{Some64}
+use Rattle.lent.proofs.Fillings.{Filling, fill_start, fill_one, fill-turn, fill_end, after, after_none, members-few, next-left, next-none}
+use borrow.Author.Rules.{rules}
+use Rattle.lent.proofs.lists.members.Goals as goal
+
+pub loop-m-init : goal.loop-m-init
+loop-m-init c = fill_start (members_of c.args.book c.args.eui.now c.args.nwk.now (live unicast_table c.args.w.now c.args.n)) c.args.out.now (after_none (members_of c.args.book c.args.eui.now c.args.nwk.now (live unicast_table c.args.w.now c.args.n)))
+
+pub returns-in-None64 : goal.returns-in-None64
+returns-in-None64 c =
+    let at = c.loop-m in
+    fill_end at.invariant refl (next-none c.args.book c.args.eui.now c.args.nwk.now (live unicast_table c.args.w.now c.args.n) at.last (sym c.in-None64.is ∙ c.next_member.ensures))
+
+pub loop-m-preserved : goal.loop-m-preserved
+loop-m-preserved c =
+    let at = c.loop-m in
+    let x = c.in-Some64.x in
+    fill-turn at.invariant (x ∷ []) (after (Some64 x) (members_of c.args.book c.args.eui.now c.args.nwk.now (live unicast_table c.args.w.now c.args.n)))
+    (next-left c.args.book c.args.eui.now c.args.nwk.now (live unicast_table c.args.w.now c.args.n) at.last x (sym c.in-Some64.is ∙ c.next_member.ensures)) (fill_one at.out at.m x)
+
+pub returns : goal.returns
+returns c =
+    let at = c.loop-m in
+    fill_end at.invariant refl (omega (arith, at.invariant.many, members-few c.args.book c.args.eui.now c.args.nwk.now (live unicast_table c.args.w.now c.args.n), held-length c.requires, c.requires.within))
