@@ -1,13 +1,9 @@
--- What is known of an event where a match has no arm for it: its variant is one of the rest. Assumes nothing.
-use Prim.Native.Nat.{ℕ, ◌≤◌}
-use native.Mathlib.Omega.{arith}
-use mathlib.Core.Path.{◌≡◌, refl, sym, subst}
-use mathlib.Core.Bool.{Bool, true, false, ◌||◌}
-use mathlib.Core.List.{List, [], ◌∷◌}
-use mathlib.Core.Logic.{◌⊎◌, inl, inr}
-use lib.Dec.{T, eqb, ltb, eqb_refl}
-use types.Run.{OneOf}
-use denote.Enum.Declared.{tag_of}
+-- What is known of an event where a match has no arm for it: what its body is not, so that its event is Malformed. Assumes nothing.
+use Prim.Native.Nat.{ℕ}
+use mathlib.Core.Path.{◌≡◌, refl}
+use mathlib.Core.Bool.{Bool, true, false}
+use mathlib.Core.List.{List}
+use lib.Dec.{ltb}
 use Rattle.records.specs.Pick.{pick}
 use Rattle.records.specs.declared.Address.TheVariants.{Absent, Short, Extended}
 use Rattle.fields.specs.declared.Read16.{Read16}
@@ -31,157 +27,140 @@ use Rattle.fields.specs.declared.ReadSchedule.TheVariants.{IsSchedule, WrongSche
 use Rattle.events.specs.declared.ReadUnicast.{ReadUnicast}
 use Rattle.events.specs.declared.ReadUnicast.TheVariants.{IsUnicast, WrongUnicast}
 use Rattle.events.specs.declared.Event.{Event}
-use Rattle.events.specs.declared.Event.TheVariants.{OnRoute, Malformed}
 use Rattle.fields.specs.Bytes.{number}
 use Rattle.fields.specs.Parts.{priority_by, address_at, key_at, confirm_at, schedule_at, opt16_by, opt64_by, result_by, lender_by}
 use Rattle.events.specs.Arrivals.{unicast_at, unicast_event, unicast_of, copy_event, copy_of, unrouted_with, unrouted_of, broadcast_with, broadcast_of}
 use Rattle.events.specs.Signals.{report_with, report_of, poll_with, poll_of, ack_event, ack_of, drop_with, drop_of, awaiting_event, has_awaiting_of}
 use Rattle.events.specs.Routes.{entries_right, route_of}
-use Rattle.events.specs.contracts.Event as event
+use Rattle.events.specs.declared.Event.TheVariants.{OnUnicast, OnCopy, OnUnrouted, OnBroadcast, OnReport, OnPoll, OnAck, OnRoute, OnDrop, OnHasAwaiting, Malformed}
+use Rattle.records.specs.declared.AckKey.{AckKey}
+use Rattle.records.specs.declared.Address.{Address}
+use Rattle.records.specs.declared.Opt16.{Opt16}
+use Rattle.records.specs.declared.Opt64.{Opt64}
+use Rattle.records.specs.declared.TxResult.{TxResult}
+use Rattle.model.specs.declared.NewUnicast.{NewUnicast}
+use Rattle.model.specs.declared.NewUnrouted.{NewUnrouted}
+use Rattle.model.specs.declared.NewBroadcast.{NewBroadcast}
+use Rattle.model.specs.declared.Lender.{Lender}
 
--- a number stands in a list
-abbrev pub among : ℕ → List ℕ → Bool
-among x [] = false
-among x (k ∷ ks) = eqb x k || among x ks
+-- what the arms before have ruled out of an event, by its kind
+module _ (e : Event) where
+  abbrev NoUnicast : Type 0
+  NoUnicast = (t : ℕ) (u : NewUnicast) → e ≡ OnUnicast t u → ⊥
 
-here : (a b : Bool) → T a → T (a || b)
-here true b t = tt
-here false b t = absurd t
+  abbrev NoCopy : Type 0
+  NoCopy = (id t : ℕ) (u : NewUnicast) → e ≡ OnCopy id t u → ⊥
 
-later : (a b : Bool) → T b → T (a || b)
-later true b t = tt
-later false b t = t
+  abbrev NoUnrouted : Type 0
+  NoUnrouted = (t : ℕ) (u : NewUnrouted) → e ≡ OnUnrouted t u → ⊥
 
-is_same : (x k : ℕ) → x ≡ k → T (eqb x k)
-is_same x k e = subst (λ (y : ℕ). T (eqb y k)) (sym e) (eqb_refl k)
+  abbrev NoBroadcast : Type 0
+  NoBroadcast = (t : ℕ) (u : NewBroadcast) → e ≡ OnBroadcast t u → ⊥
 
-pub one-among : (ks : List ℕ) (x : ℕ) → OneOf ks x → T (among x ks)
-one-among [] x h = absurd h
-one-among (k ∷ []) x e = here (eqb x k) false (is_same x k e)
-one-among (k ∷ j ∷ ks) x (inl e) = here (eqb x k) (among x (j ∷ ks)) (is_same x k e)
-one-among (k ∷ j ∷ ks) x (inr o) = later (eqb x k) (among x (j ∷ ks)) (one-among (j ∷ ks) x o)
+  abbrev NoReport : Type 0
+  NoReport = (l : Lender) (id f : ℕ) (x : TxResult) (t d : ℕ) → e ≡ OnReport l id f x t d → ⊥
 
--- the variants, by their places in Event, that are not a kind's own
-abbrev unicast_rest : List ℕ
-unicast_rest = 0 ∷ 2 ∷ 3 ∷ 4 ∷ 5 ∷ 6 ∷ 7 ∷ 8 ∷ 9 ∷ 10 ∷ 11 ∷ 12 ∷ 13 ∷ 14 ∷ 15 ∷ 16 ∷ 17 ∷ 18 ∷ 19 ∷ 20 ∷ 21 ∷ 22 ∷ []
+  abbrev NoPoll : Type 0
+  NoPoll = (t : ℕ) (x : Opt64) (y : Opt16) → e ≡ OnPoll t x y → ⊥
 
-abbrev copy_rest : List ℕ
-copy_rest = 0 ∷ 1 ∷ 3 ∷ 4 ∷ 5 ∷ 6 ∷ 7 ∷ 8 ∷ 9 ∷ 10 ∷ 11 ∷ 12 ∷ 13 ∷ 14 ∷ 15 ∷ 16 ∷ 17 ∷ 18 ∷ 19 ∷ 20 ∷ 21 ∷ 22 ∷ []
+  abbrev NoAck : Type 0
+  NoAck = (k : AckKey) → e ≡ OnAck k → ⊥
 
-abbrev unrouted_rest : List ℕ
-unrouted_rest = 0 ∷ 1 ∷ 2 ∷ 4 ∷ 5 ∷ 6 ∷ 7 ∷ 8 ∷ 9 ∷ 10 ∷ 11 ∷ 12 ∷ 13 ∷ 14 ∷ 15 ∷ 16 ∷ 17 ∷ 18 ∷ 19 ∷ 20 ∷ 21 ∷ 22 ∷ []
+  abbrev NoRoute : Type 0
+  NoRoute = (t d n : ℕ) → e ≡ OnRoute t d n → ⊥
 
-abbrev broadcast_rest : List ℕ
-broadcast_rest = 0 ∷ 1 ∷ 2 ∷ 3 ∷ 5 ∷ 6 ∷ 7 ∷ 8 ∷ 9 ∷ 10 ∷ 11 ∷ 12 ∷ 13 ∷ 14 ∷ 15 ∷ 16 ∷ 17 ∷ 18 ∷ 19 ∷ 20 ∷ 21 ∷ 22 ∷ []
+  abbrev NoDrop : Type 0
+  NoDrop = (x : Opt64) (n : ℕ) → e ≡ OnDrop x n → ⊥
 
-abbrev report_rest : List ℕ
-report_rest = 0 ∷ 1 ∷ 2 ∷ 3 ∷ 4 ∷ 5 ∷ 7 ∷ 8 ∷ 9 ∷ 10 ∷ 11 ∷ 12 ∷ 13 ∷ 14 ∷ 15 ∷ 16 ∷ 17 ∷ 18 ∷ 19 ∷ 20 ∷ 21 ∷ 22 ∷ []
-
-abbrev poll_rest : List ℕ
-poll_rest = 0 ∷ 1 ∷ 2 ∷ 3 ∷ 4 ∷ 5 ∷ 6 ∷ 8 ∷ 9 ∷ 10 ∷ 11 ∷ 12 ∷ 13 ∷ 14 ∷ 15 ∷ 16 ∷ 17 ∷ 18 ∷ 19 ∷ 20 ∷ 21 ∷ 22 ∷ []
-
-abbrev ack_rest : List ℕ
-ack_rest = 0 ∷ 1 ∷ 2 ∷ 3 ∷ 4 ∷ 5 ∷ 6 ∷ 7 ∷ 9 ∷ 10 ∷ 11 ∷ 12 ∷ 13 ∷ 14 ∷ 15 ∷ 16 ∷ 17 ∷ 18 ∷ 19 ∷ 20 ∷ 21 ∷ 22 ∷ []
-
-abbrev route_rest : List ℕ
-route_rest = 0 ∷ 1 ∷ 2 ∷ 3 ∷ 4 ∷ 5 ∷ 6 ∷ 7 ∷ 8 ∷ 9 ∷ 10 ∷ 12 ∷ 13 ∷ 14 ∷ 15 ∷ 16 ∷ 17 ∷ 18 ∷ 19 ∷ 20 ∷ 21 ∷ 22 ∷ []
-
-abbrev drop_rest : List ℕ
-drop_rest = 0 ∷ 1 ∷ 2 ∷ 3 ∷ 4 ∷ 5 ∷ 6 ∷ 7 ∷ 8 ∷ 9 ∷ 10 ∷ 11 ∷ 12 ∷ 14 ∷ 15 ∷ 16 ∷ 17 ∷ 18 ∷ 19 ∷ 20 ∷ 21 ∷ 22 ∷ []
-
-abbrev awaiting_rest : List ℕ
-awaiting_rest = 0 ∷ 1 ∷ 2 ∷ 3 ∷ 4 ∷ 5 ∷ 6 ∷ 7 ∷ 8 ∷ 9 ∷ 10 ∷ 11 ∷ 12 ∷ 13 ∷ 14 ∷ 15 ∷ 16 ∷ 17 ∷ 18 ∷ 19 ∷ 20 ∷ 22 ∷ []
-
--- an event that is known otherwise
-pub known_among : {e x : Event} (ks : List ℕ) → e ≡ x → OneOf ks (tag_of event.the_type e) → T (among (tag_of event.the_type x) ks)
-known_among ks p h = subst (λ (y : Event). T (among (tag_of event.the_type y) ks)) p (one-among ks _ h)
+  abbrev NoAwaiting : Type 0
+  NoAwaiting = (a : Address) → e ≡ OnHasAwaiting a → ⊥
 
 -- where a kind's body is not in its form, its event is Malformed
 
-unicast-by : (t : ℕ) (u : ReadUnicast) → T (among (tag_of event.the_type (unicast_event t u)) unicast_rest) → unicast_event t u ≡ Malformed
-unicast-by t (IsUnicast u) h = absurd h
-unicast-by t WrongUnicast h = refl
+unicast-by : {e : Event} (t : ℕ) (u : ReadUnicast) → e ≡ unicast_event t u → NoUnicast e → unicast_event t u ≡ Malformed
+unicast-by t (IsUnicast u) p h = absurd (h t u p)
+unicast-by t WrongUnicast p h = refl
 
-copy-by : (id t : ℕ) (u : ReadUnicast) → T (among (tag_of event.the_type (copy_event id t u)) copy_rest) → copy_event id t u ≡ Malformed
-copy-by id t (IsUnicast u) h = absurd h
-copy-by id t WrongUnicast h = refl
+copy-by : {e : Event} (id t : ℕ) (u : ReadUnicast) → e ≡ copy_event id t u → NoCopy e → copy_event id t u ≡ Malformed
+copy-by id t (IsUnicast u) p h = absurd (h _ _ _ p)
+copy-by id t WrongUnicast p h = refl
 
-unrouted-by : (t f w d : ℕ) (p : ReadPriority) (c : ReadConfirm) → T (among (tag_of event.the_type (unrouted_with t f w d p c)) unrouted_rest) → unrouted_with t f w d p c ≡ Malformed
-unrouted-by t f w d (IsPriority p) (IsConfirm c) h = absurd h
-unrouted-by t f w d (IsPriority p) WrongConfirm h = refl
-unrouted-by t f w d WrongPriority c h = refl
+unrouted-by : {e : Event} (t f w d : ℕ) (p : ReadPriority) (c : ReadConfirm) → e ≡ unrouted_with t f w d p c → NoUnrouted e → unrouted_with t f w d p c ≡ Malformed
+unrouted-by t f w d (IsPriority p) (IsConfirm c) q h = absurd (h _ _ q)
+unrouted-by t f w d (IsPriority p) WrongConfirm q h = refl
+unrouted-by t f w d WrongPriority c q h = refl
 
-broadcast-by : (t f w : ℕ) (p : ReadPriority) (s : ReadSchedule) → T (among (tag_of event.the_type (broadcast_with t f w p s)) broadcast_rest) → broadcast_with t f w p s ≡ Malformed
-broadcast-by t f w (IsPriority p) (IsSchedule s) h = absurd h
-broadcast-by t f w (IsPriority p) WrongSchedule h = refl
-broadcast-by t f w WrongPriority s h = refl
+broadcast-by : {e : Event} (t f w : ℕ) (p : ReadPriority) (s : ReadSchedule) → e ≡ broadcast_with t f w p s → NoBroadcast e → broadcast_with t f w p s ≡ Malformed
+broadcast-by t f w (IsPriority p) (IsSchedule s) q h = absurd (h _ _ q)
+broadcast-by t f w (IsPriority p) WrongSchedule q h = refl
+broadcast-by t f w WrongPriority s q h = refl
 
-report-by : (l : ReadLender) (id f : ℕ) (x : ReadResult) (t d : ℕ) → T (among (tag_of event.the_type (report_with l id f x t d)) report_rest) → report_with l id f x t d ≡ Malformed
-report-by (IsLender l) id f (IsResult x) t d h = absurd h
-report-by (IsLender l) id f WrongResult t d h = refl
-report-by WrongLender id f x t d h = refl
+report-by : {e : Event} (l : ReadLender) (id f : ℕ) (x : ReadResult) (t d : ℕ) → e ≡ report_with l id f x t d → NoReport e → report_with l id f x t d ≡ Malformed
+report-by (IsLender l) id f (IsResult x) t d p h = absurd (h _ _ _ _ _ _ p)
+report-by (IsLender l) id f WrongResult t d p h = refl
+report-by WrongLender id f x t d p h = refl
 
-poll-by : (t : ℕ) (x : Read64) (y : Read16) → T (among (tag_of event.the_type (poll_with t x y)) poll_rest) → poll_with t x y ≡ Malformed
-poll-by t (Is64 e) (Is16 n) h = absurd h
-poll-by t (Is64 e) Wrong16 h = refl
-poll-by t Wrong64 y h = refl
+poll-by : {e : Event} (t : ℕ) (x : Read64) (y : Read16) → e ≡ poll_with t x y → NoPoll e → poll_with t x y ≡ Malformed
+poll-by t (Is64 e) (Is16 n) p h = absurd (h _ _ _ p)
+poll-by t (Is64 e) Wrong16 p h = refl
+poll-by t Wrong64 y p h = refl
 
-ack-by : (k : ReadKey) → T (among (tag_of event.the_type (ack_event k)) ack_rest) → ack_event k ≡ Malformed
-ack-by (IsKey k) h = absurd h
-ack-by WrongKey h = refl
+ack-by : {e : Event} (k : ReadKey) → e ≡ ack_event k → NoAck e → ack_event k ≡ Malformed
+ack-by (IsKey k) p h = absurd (h _ p)
+ack-by WrongKey p h = refl
 
-route-by : (a b : Bool) (t d n : ℕ) → T (among (tag_of event.the_type (pick a Malformed (pick b (OnRoute t d n) Malformed))) route_rest) → pick a Malformed (pick b (OnRoute t d n) Malformed) ≡ Malformed
-route-by true b t d n h = refl
-route-by false true t d n h = absurd h
-route-by false false t d n h = refl
+route-by : {e : Event} (a b : Bool) (t d n : ℕ) → e ≡ pick a Malformed (pick b (OnRoute t d n) Malformed) → NoRoute e → pick a Malformed (pick b (OnRoute t d n) Malformed) ≡ Malformed
+route-by true b t d n p h = refl
+route-by false true t d n p h = absurd (h _ _ _ p)
+route-by false false t d n p h = refl
 
-drop-by : (x : Read64) (n : ℕ) → T (among (tag_of event.the_type (drop_with x n)) drop_rest) → drop_with x n ≡ Malformed
-drop-by (Is64 e) n h = absurd h
-drop-by Wrong64 n h = refl
+drop-by : {e : Event} (x : Read64) (n : ℕ) → e ≡ drop_with x n → NoDrop e → drop_with x n ≡ Malformed
+drop-by (Is64 e) n p h = absurd (h _ _ p)
+drop-by Wrong64 n p h = refl
 
-awaiting-by : (a : ReadAddress) → T (among (tag_of event.the_type (awaiting_event a)) awaiting_rest) → awaiting_event a ≡ Malformed
-awaiting-by (IsAddress Absent) h = refl
-awaiting-by (IsAddress (Short x)) h = absurd h
-awaiting-by (IsAddress (Extended x)) h = absurd h
-awaiting-by WrongAddress h = refl
+awaiting-by : {e : Event} (a : ReadAddress) → e ≡ awaiting_event a → NoAwaiting e → awaiting_event a ≡ Malformed
+awaiting-by (IsAddress Absent) p h = refl
+awaiting-by (IsAddress (Short x)) p h = absurd (h _ p)
+awaiting-by (IsAddress (Extended x)) p h = absurd (h _ p)
+awaiting-by WrongAddress p h = refl
 
 module _ {e : Event} (b : List ℕ) where
-  pub unicast-past : e ≡ unicast_of b → OneOf unicast_rest (tag_of event.the_type e) → unicast_of b ≡ Malformed
+  pub unicast-past : e ≡ unicast_of b → NoUnicast e → unicast_of b ≡ Malformed
   unfolding unicast_of
-  unicast-past p h = unicast-by (number 8 0 b) (unicast_at 0 b) (known_among unicast_rest p h)
+  unicast-past p h = unicast-by (number 8 0 b) (unicast_at 0 b) p h
 
-  pub copy-past : e ≡ copy_of b → OneOf copy_rest (tag_of event.the_type e) → copy_of b ≡ Malformed
+  pub copy-past : e ≡ copy_of b → NoCopy e → copy_of b ≡ Malformed
   unfolding copy_of
-  copy-past p h = copy-by (number 4 0 b) (number 8 4 b) (unicast_at 4 b) (known_among copy_rest p h)
+  copy-past p h = copy-by (number 4 0 b) (number 8 4 b) (unicast_at 4 b) p h
 
-  pub unrouted-past : e ≡ unrouted_of b → OneOf unrouted_rest (tag_of event.the_type e) → unrouted_of b ≡ Malformed
+  pub unrouted-past : e ≡ unrouted_of b → NoUnrouted e → unrouted_of b ≡ Malformed
   unfolding unrouted_of
-  unrouted-past p h = unrouted-by (number 8 0 b) (number 4 8 b) (number 4 12 b) (number 2 17 b) (priority_by (number 1 16 b)) (confirm_at 19 b) (known_among unrouted_rest p h)
+  unrouted-past p h = unrouted-by (number 8 0 b) (number 4 8 b) (number 4 12 b) (number 2 17 b) (priority_by (number 1 16 b)) (confirm_at 19 b) p h
 
-  pub broadcast-past : e ≡ broadcast_of b → OneOf broadcast_rest (tag_of event.the_type e) → broadcast_of b ≡ Malformed
+  pub broadcast-past : e ≡ broadcast_of b → NoBroadcast e → broadcast_of b ≡ Malformed
   unfolding broadcast_of
-  broadcast-past p h = broadcast-by (number 8 0 b) (number 4 8 b) (number 4 12 b) (priority_by (number 1 16 b)) (schedule_at 17 b) (known_among broadcast_rest p h)
+  broadcast-past p h = broadcast-by (number 8 0 b) (number 4 8 b) (number 4 12 b) (priority_by (number 1 16 b)) (schedule_at 17 b) p h
 
-  pub report-past : e ≡ report_of b → OneOf report_rest (tag_of event.the_type e) → report_of b ≡ Malformed
+  pub report-past : e ≡ report_of b → NoReport e → report_of b ≡ Malformed
   unfolding report_of
-  report-past p h = report-by (lender_by (number 1 0 b)) (number 4 1 b) (number 4 5 b) (result_by (number 1 9 b) (number 2 10 b)) (number 8 12 b) (number 4 20 b) (known_among report_rest p h)
+  report-past p h = report-by (lender_by (number 1 0 b)) (number 4 1 b) (number 4 5 b) (result_by (number 1 9 b) (number 2 10 b)) (number 8 12 b) (number 4 20 b) p h
 
-  pub poll-past : e ≡ poll_of b → OneOf poll_rest (tag_of event.the_type e) → poll_of b ≡ Malformed
+  pub poll-past : e ≡ poll_of b → NoPoll e → poll_of b ≡ Malformed
   unfolding poll_of
-  poll-past p h = poll-by (number 8 0 b) (opt64_by (number 1 8 b) (number 8 9 b)) (opt16_by (number 1 17 b) (number 2 18 b)) (known_among poll_rest p h)
+  poll-past p h = poll-by (number 8 0 b) (opt64_by (number 1 8 b) (number 8 9 b)) (opt16_by (number 1 17 b) (number 2 18 b)) p h
 
-  pub ack-past : e ≡ ack_of b → OneOf ack_rest (tag_of event.the_type e) → ack_of b ≡ Malformed
+  pub ack-past : e ≡ ack_of b → NoAck e → ack_of b ≡ Malformed
   unfolding ack_of
-  ack-past p h = ack-by (key_at 0 b) (known_among ack_rest p h)
+  ack-past p h = ack-by (key_at 0 b) p h
 
-  pub route-past : e ≡ route_of b → OneOf route_rest (tag_of event.the_type e) → route_of b ≡ Malformed
+  pub route-past : e ≡ route_of b → NoRoute e → route_of b ≡ Malformed
   unfolding route_of
-  route-past p h = route-by (ltb 16 (number 1 10 b)) (entries_right b (number 1 10 b) 0 16) (number 8 0 b) (number 2 8 b) (number 1 10 b) (known_among route_rest p h)
+  route-past p h = route-by (ltb 16 (number 1 10 b)) (entries_right b (number 1 10 b) 0 16) (number 8 0 b) (number 2 8 b) (number 1 10 b) p h
 
-  pub drop_past : e ≡ drop_of b → OneOf drop_rest (tag_of event.the_type e) → drop_of b ≡ Malformed
+  pub drop_past : e ≡ drop_of b → NoDrop e → drop_of b ≡ Malformed
   unfolding drop_of
-  drop_past p h = drop-by (opt64_by (number 1 0 b) (number 8 1 b)) (number 2 9 b) (known_among drop_rest p h)
+  drop_past p h = drop-by (opt64_by (number 1 0 b) (number 8 1 b)) (number 2 9 b) p h
 
-  pub awaiting-past : e ≡ has_awaiting_of b → OneOf awaiting_rest (tag_of event.the_type e) → has_awaiting_of b ≡ Malformed
+  pub awaiting-past : e ≡ has_awaiting_of b → NoAwaiting e → has_awaiting_of b ≡ Malformed
   unfolding has_awaiting_of
-  awaiting-past p h = awaiting-by (address_at 0 b) (known_among awaiting_rest p h)
+  awaiting-past p h = awaiting-by (address_at 0 b) p h

@@ -80,7 +80,7 @@ returns-in-22 c = rw c.in-22.is c.on_awaiting.ensures
 pub returns-in_default : goal.returns-in_default
 unfolding event_of
 returns-in_default c =
-    rw (ne_eqb _ 1 c.requires.plain.0.0.0.0, ne_eqb _ 2 c.requires.later.0.0.0.0.0.0.0, ne_eqb _ 3 c.requires.later.0.0.0.0.0.0.1, ne_eqb _ 4 c.requires.later.0.0.0.0.0.1, ne_eqb _ 5 c.requires.later.0.0.0.0.1, ne_eqb _ 6 c.requires.later.0.0.0.1, ne_eqb _ 7 c.requires.later.0.0.1, ne_eqb _ 8 c.requires.later.0.1, ne_eqb _ 9 c.requires.later.1, ne_eqb _ 10 c.in_default.rest.0.0.0.0.0.0.0.0.1, ne_eqb _ 11 c.in_default.rest.0.0.0.0.0.0.0.1, ne_eqb _ 12 c.in_default.rest.0.0.0.0.0.0.1, ne_eqb _ 13 c.in_default.rest.0.0.0.0.0.1, ne_eqb _ 14 c.in_default.rest.0.0.0.0.1, ne_eqb _ 15 c.in_default.rest.0.0.0.1, ne_eqb _ 16 c.in_default.rest.0.0.1, ne_eqb _ 17 c.requires.plain.0.0.0.1, ne_eqb _ 18 c.requires.plain.0.0.1, ne_eqb _ 19 c.requires.plain.0.1, ne_eqb _ 20 c.requires.plain.1, ne_eqb _ 21 c.in_default.rest.0.1, ne_eqb _ 22 c.in_default.rest.1) (did-as c.quiet.ensures (does-quiet c.requires.sound_tables _ _))
+    rw (ne_eqb _ 1 c.requires.plain.0.0.0.0, ne_eqb _ 2 c.requires.later.0.0.0.0.0.0.0, ne_eqb _ 3 c.requires.later.0.0.0.0.0.0.1, ne_eqb _ 4 c.requires.later.0.0.0.0.0.1, ne_eqb _ 5 c.requires.later.0.0.0.0.1, ne_eqb _ 6 c.requires.later.0.0.0.1, ne_eqb _ 7 c.requires.later.0.0.1, ne_eqb _ 8 c.requires.later.0.1, ne_eqb _ 9 c.requires.later.1, ne_eqb _ 10 c.in_default.in_default-own.rest.0.0.0.0.0.0.0.0.1, ne_eqb _ 11 c.in_default.in_default-own.rest.0.0.0.0.0.0.0.1, ne_eqb _ 12 c.in_default.in_default-own.rest.0.0.0.0.0.0.1, ne_eqb _ 13 c.in_default.in_default-own.rest.0.0.0.0.0.1, ne_eqb _ 14 c.in_default.in_default-own.rest.0.0.0.0.1, ne_eqb _ 15 c.in_default.in_default-own.rest.0.0.0.1, ne_eqb _ 16 c.in_default.in_default-own.rest.0.0.1, ne_eqb _ 17 c.requires.plain.0.0.0.1, ne_eqb _ 18 c.requires.plain.0.0.1, ne_eqb _ 19 c.requires.plain.0.1, ne_eqb _ 20 c.requires.plain.1, ne_eqb _ 21 c.in_default.in_default-own.rest.0.1, ne_eqb _ 22 c.in_default.in_default-own.rest.1) (did-as c.quiet.ensures (does-quiet c.requires.sound_tables _ _))
 
 pub on_route-requires-clause-in_bounds : goal.on_route-requires-clause-in_bounds
 unfolding body_of

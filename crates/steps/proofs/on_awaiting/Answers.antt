@@ -14,4 +14,4 @@ use Rattle.steps.proofs.on_awaiting.Goals as goal
 
 pub returns-in_default : goal.returns-in_default
 returns-in_default c =
-    does-as (ap (λ (x : Event). effect_of (lent_model c.args.c c.args.w.now c.args.v.now c.args.d.now c.args.b.now) c.args.s x (results_in c.args.body.now)) (awaiting-past c.args.body.now c.decode_has_awaiting-e.ensures c.in_default.keys2)) (did-as c.quiet-in_default.ensures (does-quiet c.requires.sound_tables _ _))
+    does-as (ap (λ (x : Event). effect_of (lent_model c.args.c c.args.w.now c.args.v.now c.args.d.now c.args.b.now) c.args.s x (results_in c.args.body.now)) (awaiting-past c.args.body.now c.decode_has_awaiting-e.ensures c.in_default.not-OnHasAwaiting)) (did-as c.quiet-in_default.ensures (does-quiet c.requires.sound_tables _ _))

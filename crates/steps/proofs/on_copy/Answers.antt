@@ -11,4 +11,4 @@ use Rattle.steps.proofs.on_copy.Goals as goal
 
 pub returns-in_default : goal.returns-in_default
 returns-in_default c =
-    does-as (ap (λ (x : Event). effect_of (lent_model c.args.c c.args.w.now c.args.v.now c.args.d.now c.args.b.now) c.args.s x (results_in c.args.body.now)) (copy-past c.args.body.now c.decode_copy-e.ensures c.in_default.keys2)) (did-as c.quiet.ensures (does-quiet c.requires.sound_tables _ _))
+    does-as (ap (λ (x : Event). effect_of (lent_model c.args.c c.args.w.now c.args.v.now c.args.d.now c.args.b.now) c.args.s x (results_in c.args.body.now)) (copy-past c.args.body.now c.decode_copy-e.ensures c.in_default.not-OnCopy)) (did-as c.quiet.ensures (does-quiet c.requires.sound_tables _ _))
