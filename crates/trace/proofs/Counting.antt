@@ -2,18 +2,14 @@
 use Prim.Native.Nat.{ℕ, zero, suc, ◌+◌, ◌-◌, ◌≤◌}
 use mathlib.Core.Path.{◌≡◌, refl, sym, ap, ◌∙◌}
 use mathlib.Core.List.{List, [], ◌∷◌}
-use mathlib.Core.Logic.{inl, inr}
 use native.Mathlib.Nat.{zero-add, sub-zero}
 use native.Mathlib.Omega.{arith}
 use lib.ListN.{length}
 use borrow.Author.Tests.{le-leb}
-use types.Run.{OneOf}
-use denote.Enum.Declared.{tag_of}
 use Rattle.framing.specs.Reader.{stands_at}
 use Rattle.framing.specs.declared.Standing.{Standing}
 use Rattle.framing.specs.declared.Standing.TheVariants.{Record, Unknown, Cut, End}
 use Rattle.framing.proofs.Reading.{stood}
-use Rattle.framing.specs.contracts.Standing as standing
 use Rattle.trace.specs.Reading.{count_of, records_from, records_in}
 
 -- at place at, with n counted: each record took a byte at least, so that as many are still allowed as there are bytes
@@ -25,14 +21,12 @@ pub record Counting (s : List ℕ) (at n : ℕ) : Type 0 where
 pub start : (s : List ℕ) → Counting s 0 0
 start s = record { within = omega arith; behind = omega arith; whole = rw (sub-zero, zero-add) }
 
--- the variants, by their places in Standing, other than a record
-abbrev no_record : List ℕ
-no_record = 1 ∷ 2 ∷ 3 ∷ []
+-- what stands is no whole record
+abbrev NoRecord : Standing → Type 0
+NoRecord t = (k b next : ℕ) → t ≡ Record k b next → ⊥
 
-none_after : (rest : ℕ → ℕ) (t : Standing) → OneOf no_record (tag_of standing.the_type t) → count_of rest t ≡ 0
-none_after rest (Record kind from next) (inl e) = absurd (omega arith)
-none_after rest (Record kind from next) (inr (inl e)) = absurd (omega arith)
-none_after rest (Record kind from next) (inr (inr e)) = absurd (omega arith)
+none_after : (rest : ℕ → ℕ) (t : Standing) → NoRecord t → count_of rest t ≡ 0
+none_after rest (Record kind from next) o = absurd (o kind from next refl)
 none_after rest Unknown o = refl
 none_after rest Cut o = refl
 none_after rest End o = refl
@@ -50,11 +44,11 @@ module _ (s : List ℕ) (at n : ℕ) where
       record { within = i; behind = omega arith; whole = omega arith }
 
   -- what is no whole record ends the count, whatever is still allowed
-  none : (m : ℕ) (t : Standing) → OneOf no_record (tag_of standing.the_type t) → t ≡ stands_at s at → records_from m s at ≡ 0
+  none : (m : ℕ) (t : Standing) → NoRecord t → t ≡ stands_at s at → records_from m s at ≡ 0
   none zero t o e = refl
   none (suc m) t o e = ap (count_of (records_from m s)) (sym e) ∙ none_after (records_from m s) t o
 
-  pub stop : (t : Standing) → OneOf no_record (tag_of standing.the_type t) → t ≡ stands_at s at → Counting s at n → n ≡ records_in s
+  pub stop : (t : Standing) → NoRecord t → t ≡ stands_at s at → Counting s at n → n ≡ records_in s
   stop t o e c =
       let z = none (length s - n) t o e in
       let w = c.whole in

@@ -1,0 +1,8 @@
+-- Barred, or put; then the answer.
+use Rattle.exchange.proofs.Worlds.{turned-barred, turned_pair}
+use borrow.Author.Rules.{rules}
+use Rattle.exchange.proofs.pair.Goals as goal
+
+pub returns-in-Pairs : goal.returns-in-Pairs
+returns-in-Pairs c =
+    turned_pair c.requires.ready c.args.s c.put_pair.ensures c.in-Pairs.is c.answer_done-wrote.ensures

@@ -1,0 +1,14 @@
+use Rattle.model.proofs.Sounds.{enqueue-unrouted-sound}
+use Rattle.sends.proofs.Values.{is-answered, leaves-sound}
+use borrow.Author.Rules.{rules}
+use Rattle.sends.proofs.enqueue_unrouted_unicast.Goals as goal
+
+pub returns-clause-value : goal.returns-clause-value
+returns-clause-value c =
+    let h = c.enqueue_unrouted_unicast-x.ensures in
+    is-answered h c.answered.ensures
+
+pub returns-clause-leaving : goal.returns-clause-leaving
+returns-clause-leaving c =
+    let h = c.enqueue_unrouted_unicast-x.ensures in
+    leaves-sound h c.answered.ensures (enqueue-unrouted-sound c.requires.model c.args.settings c.args.u c.args.clock)

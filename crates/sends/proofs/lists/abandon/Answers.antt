@@ -1,0 +1,9 @@
+use Rattle.model.proofs.Sounds.{abandon-sound}
+use Rattle.sends.proofs.Values.{is-emptied, left-sound}
+use borrow.Author.Rules.{rules}
+use Rattle.sends.proofs.lists.abandon.Goals as goal
+
+pub returns-clause-value : goal.returns-clause-value
+returns-clause-value c =
+    let h = c.abandon-x.ensures in
+    is-emptied h
