@@ -3,28 +3,24 @@ use Prim.Native.Nat.{ℕ, ◌+◌, ◌*◌, ◌/◌, ◌%◌, ◌<◌}
 use native.Mathlib.Nat.{mod-eq_of_lt, add-mul, add-zero, add_assoc}
 use native.Mathlib.Omega.{arith}
 use mathlib.Core.Path.{◌≡◌, refl, sym, ap, ap₂, ◌∙◌}
-use mathlib.Core.Bool.{Bool, true, false}
 use mathlib.Core.List.{List, [], ◌∷◌, ◌++◌}
 use lib.ListN.{length, length-append}
 use lib.Seq.{sets}
-use lib.Dec.{eqb}
-use Rattle.records.specs.Pick.{pick}
 use Rattle.records.specs.Numbers.{verdict_number, verdict_address, verdict_code}
 use Rattle.records.specs.declared.Opt16.{Opt16}
-use Rattle.records.specs.declared.Address.{Address}
 use Rattle.records.specs.declared.SendFailure.TheVariants.{HandoffTimeout, ApsAckTimeout, IndirectExpired, RouteDiscoveryTimeout, BroadcastQuorumNotReached, Cancelled}
 use Rattle.records.specs.declared.Verdict.{Verdict}
 use Rattle.records.specs.declared.Verdict.TheVariants.{Success, Failure, Code}
 use Rattle.records.specs.declared.Entry.{Entry}
 use Rattle.records.specs.declared.Action.{Action}
 use Rattle.records.specs.declared.Action.TheVariants.{HandedOff, Settled}
-use Rattle.codes.specs.Codes.{Coded, CodedAddress, opt16_word, opt16_from, address_tag, address_word, address_from}
+use Rattle.codes.specs.Codes.{CodedAddress, opt16_word, opt16_from, address_tag, address_word, address_from}
 use Rattle.codes.proofs.Backs.{address-low}
 use Rattle.rows.specs.Lists.{All}
 use Rattle.rows.specs.Rows.{flat}
 use Rattle.rows.proofs.Sets.{sets-append}
 use Rattle.rows.proofs.Flat.{length-flat, flat_append}
-use Rattle.actions.specs.Told.{verdict_from, settled_tags, CodedTags, action_words, action_from, action_of, Exact, tell, Told}
+use Rattle.actions.specs.Told.{verdict_from, settled_tags, CodedTags, action_words, Exact, tell, Told}
 
 -- ---- a verdict by its number
 

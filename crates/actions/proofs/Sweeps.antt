@@ -1,13 +1,12 @@
 -- How code gives every record its turn: place by place, a record that stays is stored or left, a settled one is taken out and told. And how it gives the first
 -- with a test its turn, and that a sweep in which every record rests does nothing. Over any kind of table whose records have an entry. Assumes nothing.
-use Prim.Native.Nat.{ℕ, suc, ◌+◌, ◌-◌, ◌*◌, ◌≤◌, ◌<◌}
+use Prim.Native.Nat.{ℕ, ◌+◌, ◌-◌, ◌*◌, ◌≤◌, ◌<◌}
 use native.Mathlib.Omega.{arith}
-use native.Mathlib.Nat.{mul-suc}
 use mathlib.Core.Path.{◌≡◌, refl, sym, ap, ◌∙◌}
 use mathlib.Core.Bool.{Bool, true, false}
 use mathlib.Core.List.{List, [], ◌∷◌, ◌++◌, append_assoc}
-use mathlib.Core.Option.{Option, none, some}
-use lib.ListN.{length, take, get_or, set, length-append}
+use mathlib.Core.Option.{none, some}
+use lib.ListN.{length, get_or, set}
 use lib.Seq.{set-get_or}
 use Rattle.records.specs.declared.Opt16.{Opt16}
 use Rattle.records.specs.declared.Verdict.{Verdict}
@@ -18,7 +17,7 @@ use Rattle.records.proofs.Cases.{never}
 use Rattle.rows.specs.Lists.{remove_at}
 use Rattle.rows.specs.Tables.{Table, rows_of, live, words_for, Held, Holds}
 use Rattle.rows.specs.Moves.{Turn, kept, told, each, at_first, first_at, any_of, placed, each_told, at_first_told}
-use Rattle.rows.specs.Moves.Turn.{Keeps, HandsOff, Settles}
+use Rattle.rows.specs.Moves.Turn.{Keeps, Settles}
 use Rattle.rows.proofs.Promises.{held-length, held_at, each_from, told_from, each-stays, each_goes, each-end, told-turn, told-stored, told-removed, told-end, first_found, first-missed, told-found, told-missed}
 use Rattle.actions.specs.Told.{Told}
 use Rattle.actions.specs.Calls.{Swept, Turned, Played}

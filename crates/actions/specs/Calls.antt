@@ -1,9 +1,8 @@
 -- What a call on one table of sends does: every record has its turn, the first with a test has it, or the one at a place; and what is told. Over any kind
 -- of table whose records have an entry.
-use Rattle.std.specs.Prelude.{ℕ, ◌+◌, ◌*◌, ◌-◌, ◌≤◌, ◌≡◌, Bool, List, ◌++◌}
+use Rattle.std.specs.Prelude.{ℕ, Bool, List}
 use Rattle.records.specs.declared.Entry.{Entry}
-use Rattle.records.specs.declared.Action.{Action}
-use Rattle.rows.specs.Tables.{Table, live, Held, Holds}
+use Rattle.rows.specs.Tables.{Table, live, Holds}
 use Rattle.rows.specs.Moves.{Turn, told, each, at_first, placed, each_told, at_first_told}
 use Rattle.actions.specs.Told.{Told}
 

@@ -1,5 +1,5 @@
 -- Actions in words: which words tell an action, what they say, and what a buffer holds once actions are told from a place on.
-use Rattle.std.specs.Prelude.{ℕ, ◌+◌, ◌*◌, ◌/◌, ◌%◌, ◌<◌, ◌≡◌, Bool, true, false, List, [], ◌∷◌, length, get_or, eqb}
+use Rattle.std.specs.Prelude.{ℕ, ◌+◌, ◌*◌, ◌/◌, ◌%◌, ◌<◌, ◌≡◌, List, [], ◌∷◌, length, get_or, eqb}
 use Rattle.std.proofs.lemmas.List.Edits.{sets}
 use Rattle.records.specs.Pick.{pick}
 use Rattle.records.specs.Numbers.{verdict_number, verdict_address, verdict_code}
@@ -9,10 +9,9 @@ use Rattle.records.specs.declared.SendFailure.{SendFailure}
 use Rattle.records.specs.declared.SendFailure.TheVariants.{HandoffTimeout, ApsAckTimeout, IndirectExpired, RouteDiscoveryTimeout, BroadcastQuorumNotReached, Cancelled}
 use Rattle.records.specs.declared.Verdict.{Verdict}
 use Rattle.records.specs.declared.Verdict.TheVariants.{Success, Failure, Code}
-use Rattle.records.specs.declared.Entry.{Entry}
 use Rattle.records.specs.declared.Action.{Action}
 use Rattle.records.specs.declared.Action.TheVariants.{HandedOff, Settled}
-use Rattle.codes.specs.Codes.{Coded, CodedAddress, opt16_word, opt16_from, address_tag, address_word, address_from}
+use Rattle.codes.specs.Codes.{Coded, opt16_word, opt16_from, address_tag, address_word, address_from}
 use Rattle.rows.specs.Lists.{All}
 use Rattle.rows.specs.Rows.{flat}
 

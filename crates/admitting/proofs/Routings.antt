@@ -11,7 +11,7 @@ use Rattle.records.specs.Pick.{pick, bit}
 use Rattle.records.specs.Records.{unicast_id, unrouted_id, unrouted_entry, destination_address}
 use Rattle.rows.specs.Lists.{insert_by, remove_by}
 use Rattle.rows.specs.Tables.{live, words_for, Held, Holds}
-use Rattle.rows.specs.Moves.{told, first_of, count}
+use Rattle.rows.specs.Moves.{first_of, count}
 use Rattle.rows.proofs.Promises.{live-cons, live-done, held-length, held-holds, holds-count}
 use Rattle.tables.specs.Layouts.{unicast_table, unrouted_table, destination_table}
 use Rattle.actions.specs.Told.{Told}

@@ -2,14 +2,14 @@
 use Prim.Native.Nat.{ℕ, ◌+◌, ◌-◌, ◌*◌, ◌/◌, ◌%◌, ◌<◌}
 use native.Mathlib.Nat.{mod-eq_of_lt}
 use native.Mathlib.Omega.{arith}
-use mathlib.Core.Path.{◌≡◌, refl, sym, ap, ap₂, ◌∙◌}
+use mathlib.Core.Path.{◌≡◌, refl, ap, ap₂, ◌∙◌}
 use mathlib.Core.Bool.{Bool, true, false}
 use lib.Dec.{eqb}
-use borrow.Author.Tests.{eq-eqb, ne_eqb}
+use borrow.Author.Tests.{ne_eqb}
 use Rattle.records.specs.Pick.{pick, bit}
 use Rattle.records.specs.Priorities.{rank_of}
-use Rattle.codes.specs.Types.{Opt8, None8, Some8, Opt16, None16, Some16, Opt32, None32, Some32, Priority, Background, UserLow, UserNormal, UserHigh, UserCritical, StackCritical, Address, Absent, Short, Extended, Stage, Queued, Transmitting, Retrying, AwaitingPoll, AwaitingApsAck, CopyState, Idle, CopyQueued, CopyTransmitting, Schedule, Once, PassiveAck, FixedInterval, QuorumKey, AckKey, Confirm, OnHandoff, ApsAck}
-use Rattle.codes.specs.Codes.{Coded, opt8_word, opt8_from, opt16_word, opt16_from, opt32_word, opt32_from, priority_from, flag, address_tag, address_word, address_from, CodedAddress, stage_tag, stage_time, stage_from, copy_tag, copy_from, quorum_word, quorum_from, schedule_tag, schedule_copies, schedule_what, schedule_next, schedule_from, CodedSchedule, ack_first, ack_second, ack_key_from, confirm_first, confirm_second, confirm_from, CodedConfirm}
+use Rattle.codes.specs.Types.{None8, Some8, None16, Some16, None32, Some32, Priority, Background, UserLow, UserNormal, UserHigh, UserCritical, StackCritical, Address, Absent, Short, Extended, Stage, Queued, Transmitting, Retrying, AwaitingPoll, AwaitingApsAck, CopyState, Idle, CopyQueued, CopyTransmitting, Schedule, Once, PassiveAck, FixedInterval, QuorumKey, AckKey, OnHandoff, ApsAck}
+use Rattle.codes.specs.Codes.{Coded, opt8_word, opt8_from, opt16_word, opt16_from, opt32_word, opt32_from, priority_from, flag, address_tag, CodedAddress, stage_tag, stage_time, stage_from, copy_tag, copy_from, quorum_word, quorum_from, schedule_tag, CodedSchedule, ack_first, ack_second, ack_key_from, confirm_from, CodedConfirm}
 
 -- ---- optional numbers, over the width and what is made of them
 

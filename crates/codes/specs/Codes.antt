@@ -1,7 +1,7 @@
 -- The parts of a record as numbers, and what such numbers say. Each number is below a limit, so that several share a word; 0 says the first variant, so
 -- that zeros say a blank.
 use Rattle.std.specs.Prelude.{ℕ, ◌+◌, ◌-◌, ◌*◌, ◌/◌, ◌%◌, ◌<◌, ◌≡◌, Bool, true, false, eqb}
-use Rattle.records.specs.Pick.{pick, bit}
+use Rattle.records.specs.Pick.{pick}
 use Rattle.codes.specs.Types.{Opt8, None8, Some8, Opt16, None16, Some16, Opt32, None32, Some32, Priority, Background, UserLow, UserNormal, UserHigh, UserCritical, StackCritical, Address, Absent, Short, Extended, Stage, Queued, Transmitting, Retrying, AwaitingPoll, AwaitingApsAck, CopyState, Idle, CopyQueued, CopyTransmitting, Schedule, Once, PassiveAck, FixedInterval, QuorumKey, AckKey, Confirm, OnHandoff, ApsAck}
 use Rattle.codes.specs.declared.Two.{Two}
 

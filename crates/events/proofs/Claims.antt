@@ -2,14 +2,14 @@
 use Prim.Native.Nat.{ℕ}
 use mathlib.Core.Path.{◌≡◌, refl}
 use mathlib.Core.List.{List, [], ◌∷◌, ◌++◌}
-use lib.ListN.{length, replicate, take, drop}
+use lib.ListN.{replicate, take, drop}
 use Rattle.framing.specs.Kinds.{body_of}
 use Rattle.framing.specs.Reader.{stands_at}
 use Rattle.events.specs.Events.{event_of}
 use Rattle.events.specs.Arrivals.{unicast_of, broadcast_of}
-use Rattle.events.specs.Signals.{dequeue_of, report_of, poll_of, has_awaiting_of}
+use Rattle.events.specs.Signals.{dequeue_of, poll_of, has_awaiting_of}
 use Rattle.events.specs.Routes.{route_of}
-use Rattle.events.specs.Types.{Absent, Short, UserNormal, StackCritical, OnHandoff, Once, None16, None64, OnUnicast, OnBroadcast, OnDequeue, OnPoll, OnRoute, OnHasAwaiting, Malformed}
+use Rattle.events.specs.Types.{Short, UserNormal, StackCritical, OnHandoff, Once, None16, None64, OnUnicast, OnBroadcast, OnDequeue, OnPoll, OnRoute, Malformed}
 use Rattle.framing.specs.declared.Standing.TheVariants.{Record, Unknown, Cut, End}
 
 abbrev zeros : ℕ → List ℕ

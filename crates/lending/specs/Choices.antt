@@ -1,5 +1,4 @@
 -- A dequeue in two steps, as the code has it: which send goes first, and then that it is lent. proofs/Chosen says that this is the model's one step.
-use Rattle.std.specs.Prelude.{ℕ}
 use Rattle.records.specs.Pick.{pick}
 use Rattle.records.specs.Priorities.{rank_of}
 use Rattle.casting.specs.declared.Best as cast

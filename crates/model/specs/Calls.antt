@@ -1,5 +1,5 @@
 -- 01's calls over the send tables: for each, its refusals in 01's order, then what it makes of the lists, answers and tells.
-use Rattle.std.specs.Prelude.{ℕ, suc, ◌+◌, ◌-◌, Bool, true, false, not, ◌&&◌, ◌||◌, List, [], ◌∷◌, ◌++◌, map, length, take, ltb, leb, eqb}
+use Rattle.std.specs.Prelude.{ℕ, suc, ◌-◌, Bool, true, false, not, ◌&&◌, ◌||◌, List, [], ◌∷◌, ◌++◌, map, length, take, ltb, leb, eqb}
 use Rattle.std.proofs.Math.Option.{Option, none, some}
 use Rattle.records.specs.Pick.{pick}
 use Rattle.records.specs.Limits.{last_time, no_id, unicast_room, broadcast_room}

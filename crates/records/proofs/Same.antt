@@ -1,7 +1,6 @@
 -- The tests of sameness hold exactly of equals. Assumes nothing.
-use mathlib.Core.Path.{◌≡◌, refl, sym, ap, ◌∙◌}
-use mathlib.Core.Bool.{Bool, true, false, ◌&&◌}
-use lib.Dec.{eqb}
+use mathlib.Core.Path.{◌≡◌, refl, ap}
+use mathlib.Core.Bool.{true}
 use borrow.Author.Tests.{eqb-true, eq-eqb}
 use Rattle.records.proofs.Cases.{never, both}
 use Rattle.records.specs.Types.{Opt8, None8, Some8, Opt16, None16, Some16, Address, Absent, Short, Extended, AckKey, QuorumKey}

@@ -1,5 +1,5 @@
 -- When two optional numbers, addresses or keys are the same one. (proofs/Same: exactly when they are equal.)
-use Rattle.std.specs.Prelude.{ℕ, Bool, true, false, ◌&&◌, eqb}
+use Rattle.std.specs.Prelude.{Bool, true, false, ◌&&◌, eqb}
 use Rattle.records.specs.Types.{Opt8, None8, Some8, Opt16, None16, Some16, Address, Absent, Short, Extended, AckKey, QuorumKey}
 
 abbrev pub same8 : Opt8 → Opt8 → Bool

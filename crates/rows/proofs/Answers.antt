@@ -1,6 +1,6 @@
 -- What find, insert and remove answer of a held table, as their code has it: one law for each way that they end. Over any kind of table whose layout
 -- is lawful. Assumes nothing.
-use Prim.Native.Nat.{ℕ, zero, suc, ◌+◌, ◌-◌, ◌*◌, ◌≤◌, ◌<◌}
+use Prim.Native.Nat.{ℕ, suc, ◌+◌, ◌-◌, ◌*◌, ◌≤◌, ◌<◌}
 use native.Mathlib.Nat.{mul-le-mul_right}
 use native.Mathlib.Omega.{arith}
 use native.Mathlib.Numerals.{add-one}
@@ -8,8 +8,7 @@ use mathlib.Core.Path.{◌≡◌, refl, sym, ap, ◌∙◌}
 use mathlib.Core.Bool.{Bool, true, false}
 use mathlib.Core.List.{List}
 use mathlib.Core.Option.{Option, none, some}
-use lib.ListN.{length, get_or, set}
-use lib.Seq.{get_or-take}
+use lib.ListN.{length, set}
 use lib.Dec.{leb}
 use borrow.Author.Tests.{le-leb, lt-leb, leb-true, leb-false}
 use Rattle.records.specs.Pick.{pick}
@@ -18,12 +17,10 @@ use Rattle.rows.specs.declared.Spot.TheVariants.{Taken, Free}
 use Rattle.rows.specs.declared.Slot.{Slot}
 use Rattle.rows.specs.declared.Slot.TheVariants.{Shut, Over, New}
 use Rattle.rows.specs.declared.Place.{Place}
-use Rattle.rows.specs.declared.Place.TheVariants.{Nowhere, Here}
-use Rattle.rows.specs.declared.Inserted.{Inserted}
 use Rattle.rows.specs.declared.Inserted.TheVariants.{Full, Holding}
-use Rattle.rows.specs.Lists.{remove_at, place_of, find_by, insert_by, remove_by, spot_at, place_at, inserted_of}
+use Rattle.rows.specs.Lists.{remove_at, place_of, find_by, insert_by, remove_by, spot_at, place_at}
 use Rattle.rows.specs.Rows.{rows_from, itself, first_word, spot_in, place_of_spot, slot_of, slot_words, left_count, left_words, Searched, Slotted, Unslotted, opened}
-use Rattle.rows.specs.Tables.{Table, rows_of, live, Held, Holds, Stands, Entered, Put}
+use Rattle.rows.specs.Tables.{Table, live, Held, Holds, Stands, Entered, Put}
 use Rattle.rows.proofs.Search.{search-le}
 use Rattle.rows.proofs.Keys.{place-le, found, not_found, insert-hit, remove-hit, remove-miss}
 use Rattle.rows.proofs.Promises.{length-insert-hit, length-insert-miss, held-length, hit-lt, hit-key}

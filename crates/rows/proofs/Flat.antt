@@ -1,16 +1,15 @@
 -- Records in words, one after the other: parts of the words are the words of parts of the records. And what moving rows does to the records. Over
 -- any type of records, their width k, and how they are written. Assumes nothing.
 use Prim.Native.Nat.{ℕ, zero, suc, ◌+◌, ◌-◌, ◌*◌, ◌≤◌, ◌<◌}
-use native.Mathlib.Nat.{zero-mul, suc-mul, add-mul, add_comm, zero-add, mul-le-mul_right}
+use native.Mathlib.Nat.{zero-mul, suc-mul, add-mul, add_comm, mul-le-mul_right}
 use native.Mathlib.Omega.{arith}
 use mathlib.Core.Path.{◌≡◌, refl, sym, ap, ap₂, ◌∙◌}
 use mathlib.Core.List.{List, [], ◌∷◌, ◌++◌, map, append_assoc}
-use lib.ListN.{length, take, drop, get_or, set, replicate, length-append, length-drop, length-take}
-use lib.Seq.{sets, sets-eq, take_at, drop_at, take-nil, drop-nil, take-append-add, drop-append-add, length-take-le}
+use lib.ListN.{length, take, drop, set, replicate, length-append, length-take}
+use lib.Seq.{sets, sets-eq, take_at, drop_at, take-nil, drop-nil, take-append-add, drop-append-add}
 use Rattle.rows.specs.Lists.{remove_at, insert_at, pad_to}
 use Rattle.rows.specs.Rows.{rows_from, flat, moved, closed, opened}
 use Rattle.rows.proofs.Sets.{sets-append, sets-front, length_moved}
-use Rattle.rows.proofs.Search.{split_rows, split-place}
 
 append-nil : {A : Type 0} (xs : List A) → xs ++ [] ≡ xs
 append-nil [] = refl

@@ -5,28 +5,21 @@ use native.Mathlib.Omega.{arith}
 use native.Mathlib.Numerals.{add-one}
 use native.Mathlib.Nat.{mul-le-mul_right}
 use mathlib.Core.Path.{◌≡◌, refl, sym, ap, ap₂, ◌∙◌}
-use mathlib.Core.Bool.{Bool, true, false}
-use mathlib.Core.List.{List, [], ◌∷◌, ◌++◌, map, append_assoc}
-use mathlib.Core.Logic.{⊎_elim}
+use mathlib.Core.List.{List, [], ◌∷◌, ◌++◌, map}
 use mathlib.Core.Option
 use mathlib.Core.Option.{Option, none, some}
 use lib.ListN.{length, take, drop, get_or, set, replicate, length-append, length-replicate, length-set}
-use lib.Seq.{sets, take_at, take-append_seam, length-take-le, get_or-take, set-append_left}
-use lib.Dec.{ltb, leb, eqb}
-use borrow.Author.Tests.{le-leb, lt-leb}
+use lib.Seq.{sets, take-append_seam, get_or-take, set-append_left}
+use lib.Dec.{ltb, eqb}
 use Rattle.records.specs.Pick.{pick}
-use Rattle.rows.specs.declared.Spot.{Spot}
-use Rattle.rows.specs.declared.Spot.TheVariants.{Taken, Free}
-use Rattle.rows.specs.declared.Place.TheVariants.{Nowhere, Here}
-use Rattle.rows.specs.declared.Inserted.TheVariants.{Full, Holding}
-use Rattle.rows.specs.Lists.{remove_at, insert_at, All, pad_to, place_of, find_by, insert_by, remove_by, Rising, spot_at, place_at, inserted_of}
+use Rattle.rows.specs.Lists.{remove_at, insert_at, All, pad_to, place_of, find_by, insert_by, Rising, spot_at}
 use Rattle.rows.specs.Rows.{rows_from, flat, itself, first_word, spot_in, Searched, moved, closed, opened}
-use Rattle.rows.specs.Tables.{Layout, Table, rows_of, live, words_for, Held, Holds, Stands, Entered, Put}
-use Rattle.rows.proofs.Keys.{place-le, found, not_found, insert-hit, insert-miss, remove-hit, remove-miss}
+use Rattle.rows.specs.Tables.{Table, rows_of, live, words_for, Held, Holds, Stands, Put}
+use Rattle.rows.proofs.Keys.{place-le, not_found, insert-miss}
 use Rattle.rows.proofs.Sets.{length_moved}
-use Rattle.rows.proofs.Search.{length-rows, row_at}
+use Rattle.rows.proofs.Search.{row_at}
 use Rattle.rows.proofs.Flat.{length-flat, flat_append, flat-set, flat-closed, flat-opened, rows-flat, length-remove_at, length-insert_at, pad-removed, pad-inserted}
-use Rattle.rows.proofs.Promises.{length-rows_of, held-length, rising-insert, rising-remove_at, rising-set, length-insert-hit, length-insert-miss}
+use Rattle.rows.proofs.Promises.{held-length, rising-insert, rising-remove_at, rising-set}
 
 -- what a layout owes: each record has its width, its key is its first word, and a blank is zeros that say the blank again
 pub record Lawful {A : Type 0} (t : Table A) : Type 0 where

@@ -3,17 +3,14 @@
 use Prim.Native.Nat.{ℕ, zero, suc, ◌≤◌, ◌<◌, suc-le-suc}
 use native.Mathlib.Nat.{le_of_suc-le-suc}
 use native.Mathlib.Omega.{arith}
-use mathlib.Core.Path.{◌≡◌, refl, sym, ap, ◌∙◌}
-use mathlib.Core.Bool.{Bool, true, false}
+use mathlib.Core.Path.{◌≡◌, refl, ap}
 use mathlib.Core.List.{List, [], ◌∷◌}
 use mathlib.Core.Logic.{◌⊎◌, inl, inr, ⊎_elim}
-use mathlib.Core.Option.{Option, none, some, map}
+use mathlib.Core.Option.{none, some, map}
 use lib.ListN.{length, get_or, set}
-use lib.Dec.{ltb, eqb}
 use borrow.Author.Tests.{lt-ltb, le-ltb, eq-eqb, ne_eqb}
-use Rattle.records.specs.Pick.{pick}
 use Rattle.records.proofs.Cases.{lt-or-le, eq-or-ne}
-use Rattle.rows.specs.Lists.{place_of, find_by, lookup, insert_by, remove_by, insert_at, remove_at, Rising}
+use Rattle.rows.specs.Lists.{place_of, find_by, insert_by, remove_by, insert_at, remove_at, Rising}
 
 module _ {A : Type 0} (key : A → ℕ) where
   -- ---- places

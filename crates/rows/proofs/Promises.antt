@@ -8,7 +8,7 @@ use native.Mathlib.Omega.{arith}
 use mathlib.Core.Path.{◌≡◌, refl, sym, ap, ◌∙◌, subst⁻¹}
 use mathlib.Core.Bool.{Bool, true, false}
 use mathlib.Core.List.{List, [], ◌∷◌, ◌++◌, map}
-use mathlib.Core.Logic.{◌⊎◌, inl, inr, ⊎_elim}
+use mathlib.Core.Logic.{⊎_elim}
 use mathlib.Core.Option
 use mathlib.Core.Option.{Option, none, some}
 use Rattle.records.specs.declared.Entry.{Entry}
@@ -16,11 +16,11 @@ use Rattle.records.specs.declared.Action.{Action}
 use Rattle.records.specs.declared.Action.TheVariants.{HandedOff, Settled}
 use lib.ListN.{length, take, drop, get_or, set, length-set, drop_of_length-le}
 use lib.Seq.{drop-cons, get_or-take, length-take-le, drop-set-lt}
-use lib.Dec.{ltb, leb, eqb}
+use lib.Dec.{leb, eqb}
 use borrow.Author.Tests.{lt-ltb, le-ltb, eq-eqb, ne_eqb, lt-leb, leb-false}
 use Rattle.records.specs.Pick.{pick, bit}
 use Rattle.records.proofs.Cases.{lt-or-le, eq-or-ne, either, never}
-use Rattle.rows.specs.Lists.{place_of, find_by, lookup, insert_by, remove_by, insert_at, remove_at, fold, All, Rising, place_at, inserted_of}
+use Rattle.rows.specs.Lists.{place_of, find_by, lookup, insert_by, remove_by, remove_at, fold, All, Rising, place_at, inserted_of}
 use Rattle.rows.specs.declared.Place.{Place}
 use Rattle.rows.specs.declared.Place.TheVariants.{Nowhere, Here}
 use Rattle.rows.specs.declared.Inserted.{Inserted}
@@ -30,7 +30,7 @@ use Rattle.rows.specs.Moves.{Turn, kept, told, each, at_first, first_of, first_a
 use Rattle.rows.specs.Moves.Turn.{Keeps, HandsOff, Settles}
 use Rattle.rows.proofs.Search.{length-rows}
 use Rattle.rows.proofs.Flat.{length-insert_at, length-remove_at}
-use Rattle.rows.proofs.Keys.{find_past, found, not_found, insert-hit, insert-miss, remove-hit, remove-miss}
+use Rattle.rows.proofs.Keys.{find_past, found, not_found, insert-hit, insert-miss, remove-hit}
 
 module _ {A : Type 0} (key : A → ℕ) where
   -- ---- rising

@@ -1,6 +1,6 @@
 -- A table as the list of its records in rising key: what finding, inserting and removing mean. Over the type A of the records, the key that they
 -- are kept under, the blank that fills a free place, and the number of places.
-use Rattle.std.specs.Prelude.{ℕ, zero, suc, ◌-◌, ◌≤◌, Bool, true, false, List, [], ◌∷◌, ◌++◌, length, replicate, ltb, leb, eqb}
+use Rattle.std.specs.Prelude.{ℕ, zero, suc, ◌-◌, ◌≤◌, List, [], ◌∷◌, ◌++◌, length, replicate, ltb, leb, eqb}
 use Rattle.std.proofs.Math.Option.{Option, none, some, map}
 use Rattle.records.specs.Pick.{pick}
 use Rattle.rows.specs.declared.Spot.{Spot}

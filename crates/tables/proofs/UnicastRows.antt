@@ -8,9 +8,9 @@ use lib.ListN.{get_or}
 use Rattle.records.specs.Records.{blank_unicast}
 use Rattle.records.specs.Priorities.{rank_of}
 use Rattle.records.specs.declared.Unicast.{Unicast}
-use Rattle.codes.specs.Codes.{Coded, CodedAddress, CodedConfirm, opt32_word, opt32_from, priority_from, address_tag, address_from, address_word, stage_tag, stage_from, stage_time, confirm_from, confirm_first, confirm_second}
+use Rattle.codes.specs.Codes.{Coded, CodedAddress, opt32_word, opt32_from, priority_from, address_tag, address_from, address_word, stage_tag, stage_from, stage_time, confirm_from, confirm_first, confirm_second}
 use Rattle.rows.specs.Tables.{rows_of}
-use Rattle.tables.specs.Layouts.{unicast_tags, unicast_words, unicast_from, unicast_layout, unicast_table}
+use Rattle.tables.specs.Layouts.{unicast_from, unicast_layout, unicast_table}
 use Rattle.rows.proofs.Search.{first-at, next-at}
 use Rattle.codes.proofs.Backs.{priority-back, rank-low, address-low, stage-back, stage-low}
 use Rattle.rows.proofs.Held.{Lawful, row_of}

@@ -1,11 +1,11 @@
 -- What a reader may take from the rules of unrouted sends: when 4 and 9 are given, which send a route takes, and that no send is lost. Assumes nothing.
-use Prim.Native.Nat.{ℕ, suc, ◌+◌, ◌≤◌}
+use Prim.Native.Nat.{ℕ, ◌+◌, ◌≤◌}
 use native.Mathlib.Omega.{arith}
-use mathlib.Core.Path.{◌≡◌, refl, sym, ap, ◌∙◌}
+use mathlib.Core.Path.{◌≡◌, refl, sym, ap}
 use mathlib.Core.Bool.{Bool, true, false, not, ◌&&◌, ◌||◌}
 use mathlib.Core.List.{List, [], ◌∷◌}
 use mathlib.Core.Logic.{◌⊎◌, inl, inr}
-use mathlib.Core.Option.{Option, none, some}
+use mathlib.Core.Option.{none, some}
 use lib.ListN.{length}
 use lib.Dec.{ltb, leb, eqb}
 use borrow.Author.Tests.{leb-true}
@@ -14,10 +14,10 @@ use Rattle.records.specs.Records.{unrouted_id, unrouted_entry, destination_addre
 use Rattle.records.specs.declared.Entry.{Entry}
 use Rattle.records.proofs.Cases.{either, never}
 use Rattle.rows.specs.Lists.{All, Rising, lookup}
-use Rattle.rows.specs.Moves.{Turn, each, at_first, first_of, any_of, count, each_told, at_first_told, has_id, settled_of}
+use Rattle.rows.specs.Moves.{each, at_first, first_of, any_of, count, each_told, at_first_told, has_id, settled_of}
 use Rattle.rows.specs.Moves.{Same}
 use Rattle.rows.proofs.Promises.{entries, each-count, first_count, first-oldest}
-use Rattle.unrouted.specs.Types.{Unrouted, Destination, Which, Retry, NotHeld, Declined, Granted}
+use Rattle.unrouted.specs.Types.{Unrouted, Destination, Which, NotHeld, Declined, Granted}
 use Rattle.unrouted.specs.Rules.{chosen, sweep_turn, cancel_turn, goes_to, is_held, no_room, retry_by, retry_of}
 
 -- ---- 4, exactly: the table is full, or the destination is new and 16 are held (when: full-sends, full-held in Lists)

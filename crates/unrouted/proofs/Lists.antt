@@ -5,15 +5,15 @@ use mathlib.Core.Path.{◌≡◌, refl, sym, ap, ap₂, ◌∙◌}
 use mathlib.Core.Bool.{Bool, true, false, not, ◌&&◌, ◌||◌}
 use mathlib.Core.List.{List, [], ◌∷◌}
 use mathlib.Core.Option.{Option, none, some, map}
-use lib.ListN.{length, get_or}
-use lib.Dec.{ltb, leb, eqb}
+use lib.ListN.{length}
+use lib.Dec.{ltb, leb}
 use borrow.Author.Tests.{le-leb, lt-leb, lt-ltb, le-ltb}
 use Rattle.records.specs.Pick.{pick}
 use Rattle.records.specs.Records.{unrouted_id, destination_address}
 use Rattle.rows.specs.Lists.{insert_by, remove_at, lookup}
-use Rattle.rows.specs.Moves.{first_at, first_of, any_of}
-use Rattle.unrouted.specs.Types.{Unrouted, Destination, Entering, NoRoom, Entered, Retry, NotHeld, Declined, Granted, NextSend, Nothing, Took}
-use Rattle.unrouted.specs.Rules.{goes_to, is_held, holding, no_room, enqueue_of, retry_by, retry_of, drop_first, take_of}
+use Rattle.rows.specs.Moves.{first_at, any_of}
+use Rattle.unrouted.specs.Types.{Unrouted, Destination, NoRoom, Entered, NotHeld, Declined, Granted}
+use Rattle.unrouted.specs.Rules.{goes_to, is_held, holding, no_room, enqueue_of, retry_by, retry_of, drop_first}
 
 -- ---- an enqueue
 

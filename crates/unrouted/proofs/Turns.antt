@@ -6,10 +6,10 @@ use mathlib.Core.Bool.{Bool, true, false}
 use mathlib.Core.List.{List, [], ◌∷◌}
 use lib.ListN.{get_or}
 use Rattle.records.specs.Pick.{pick, bit}
-use Rattle.rows.specs.Lists.{remove_at, fold}
+use Rattle.rows.specs.Lists.{fold}
 use Rattle.records.specs.Records.{blank_unrouted}
 use Rattle.rows.specs.Tables.{rows_of}
-use Rattle.rows.specs.Moves.{Turn, count, first_at}
+use Rattle.rows.specs.Moves.{count}
 use Rattle.rows.specs.Moves.Turn.{Keeps, Settles}
 use Rattle.tables.specs.Layouts.{unrouted_head, unrouted_table}
 use Rattle.unrouted.specs.Types.{None16, Unrouted, UnroutedHead, SendFailure, Failure, Which}

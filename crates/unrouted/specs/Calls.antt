@@ -3,7 +3,6 @@ use Rattle.std.specs.Prelude.{ℕ, ◌-◌, ◌≡◌, List, []}
 use Rattle.records.specs.Records.{unrouted_id, unrouted_entry, destination_address}
 use Rattle.rows.specs.Lists.{insert_by, remove_by}
 use Rattle.rows.specs.Tables.{live, Holds}
-use Rattle.rows.specs.Moves.{first_of}
 use Rattle.tables.specs.Layouts.{unrouted_table, destination_table}
 use Rattle.actions.specs.Calls.{Swept}
 use Rattle.unrouted.specs.declared.Failed.{Failed}

@@ -1,11 +1,11 @@
 -- 01's rules of unrouted sends, on one send and on the lists of sends and of held destinations.
-use Rattle.std.specs.Prelude.{ℕ, ◌+◌, ◌-◌, Bool, true, false, not, ◌&&◌, ◌||◌, List, [], ◌∷◌, length, ltb, leb, eqb}
+use Rattle.std.specs.Prelude.{ℕ, ◌+◌, ◌-◌, Bool, false, not, ◌&&◌, ◌||◌, List, [], ◌∷◌, length, ltb, leb, eqb}
 use Rattle.std.proofs.Math.Option.{Option, none, some}
 use Rattle.records.specs.Pick.{pick, bit}
 use Rattle.records.specs.Limits.{unrouted_room, destination_room}
 use Rattle.records.specs.Records.{unrouted_id, destination_address}
 use Rattle.records.specs.Times.{sooner}
-use Rattle.rows.specs.Lists.{fold, insert_by, remove_by, lookup}
+use Rattle.rows.specs.Lists.{fold, insert_by, lookup}
 use Rattle.rows.specs.Moves.{Turn, at_first, any_of, first_of}
 use Rattle.rows.specs.Moves.Turn.{Keeps, Settles}
 use Rattle.tables.specs.Layouts.{unrouted_head}

@@ -1,8 +1,6 @@
-use Prim.Native.Nat.{◌-◌}
 use native.Mathlib.Omega.{arith}
 use Rattle.listings.specs.Listings.{abandoned_items}
-use Rattle.listings.proofs.Puttings.{Putting, put-start, put-turn, put-room, put-end, two-count, two-item}
-use borrow.Author.Rules.{rules}
+use Rattle.listings.proofs.Puttings.{put-start, put-turn, put-room, two-count, two-item}
 use Rattle.listings.proofs.put_abandoned.Goals as goal
 
 pub loop-i-init : goal.loop-i-init

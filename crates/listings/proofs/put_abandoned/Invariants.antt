@@ -1,9 +1,7 @@
 -- Writing what is left of the items, from here, gives the whole.
 use Prim.Native.Nat.{◌-◌}
-use native.Mathlib.Omega.{arith}
 use Rattle.listings.specs.Listings.{abandoned_items}
-use Rattle.listings.proofs.Puttings.{Putting, put-start, put-turn, put-room, put-end, two-count, two-item}
-use borrow.Author.Rules.{rules}
+use Rattle.listings.proofs.Puttings.{Putting}
 use Rattle.listings.proofs.put_abandoned.Given as goal
 
 abbrev pub invariant-loop-i : goal.invariant-loop-i

@@ -1,8 +1,6 @@
-use Prim.Native.Nat.{◌-◌}
 use native.Mathlib.Omega.{arith}
-use Rattle.listings.specs.Listings.{destination_item, destination_items}
-use Rattle.listings.proofs.Puttings.{Putting, put-start, put-turn, put-room, put-end, map-count, map-item}
-use borrow.Author.Rules.{rules}
+use Rattle.listings.specs.Listings.{destination_item}
+use Rattle.listings.proofs.Puttings.{put-turn, put-room, map-item}
 use Rattle.listings.proofs.put_destinations.Goals as goal
 
 pub put_destination-next-requires : goal.put_destination-next-requires

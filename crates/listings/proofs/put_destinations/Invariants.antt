@@ -1,9 +1,7 @@
 -- Writing what is left of the items, from here, gives the whole.
 use Prim.Native.Nat.{◌-◌}
-use native.Mathlib.Omega.{arith}
-use Rattle.listings.specs.Listings.{destination_item, destination_items}
-use Rattle.listings.proofs.Puttings.{Putting, put-start, put-turn, put-room, put-end, map-count, map-item}
-use borrow.Author.Rules.{rules}
+use Rattle.listings.specs.Listings.{destination_items}
+use Rattle.listings.proofs.Puttings.{Putting}
 use Rattle.listings.proofs.put_destinations.Given as goal
 
 abbrev pub invariant-loop-i : goal.invariant-loop-i

@@ -1,10 +1,8 @@
-use Prim.Native.Nat.{◌-◌}
 use native.Mathlib.Omega.{arith}
 use mathlib.Core.Path.{sym, ap, ◌∙◌}
 use Rattle.listings.specs.Types.{Key}
-use Rattle.listings.specs.Listings.{key_item, key_items}
-use Rattle.listings.proofs.Puttings.{Putting, put-start, put-turn, put-room, put-end, map-count, map-item}
-use borrow.Author.Rules.{rules}
+use Rattle.listings.specs.Listings.{key_item}
+use Rattle.listings.proofs.Puttings.{put-turn, put-room, map-item}
 use Rattle.listings.proofs.put_keys.Goals as goal
 
 pub put_key-next-requires : goal.put_key-next-requires

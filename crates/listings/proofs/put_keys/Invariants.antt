@@ -1,11 +1,7 @@
 -- Writing what is left of the items, from here, gives the whole.
 use Prim.Native.Nat.{◌-◌}
-use native.Mathlib.Omega.{arith}
-use mathlib.Core.Path.{sym, ap, ◌∙◌}
-use Rattle.listings.specs.Types.{Key}
-use Rattle.listings.specs.Listings.{key_item, key_items}
-use Rattle.listings.proofs.Puttings.{Putting, put-start, put-turn, put-room, put-end, map-count, map-item}
-use borrow.Author.Rules.{rules}
+use Rattle.listings.specs.Listings.{key_items}
+use Rattle.listings.proofs.Puttings.{Putting}
 use Rattle.listings.proofs.put_keys.Given as goal
 
 abbrev pub invariant-loop-i : goal.invariant-loop-i

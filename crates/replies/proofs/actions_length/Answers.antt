@@ -1,13 +1,10 @@
-use Prim.Native.Nat.{◌+◌, ◌-◌, ◌*◌, ◌≤◌}
 use native.Mathlib.Omega.{arith}
-use mathlib.Core.Path.{◌≡◌, ap}
+use mathlib.Core.Path.{ap}
 use lib.ListN.{length}
-use Rattle.answers.specs.Items.{action_bytes, actions_bytes}
+use Rattle.answers.specs.Items.{action_bytes}
 use Rattle.answers.proofs.Sizes.{action-short}
 use Rattle.replies.specs.Types.{Action}
-use Rattle.replies.specs.Replies.{acts_of}
-use Rattle.replies.proofs.Parts.{left_bytes, left-start, left-length, left_end}
-use borrow.Author.Rules.{rules}
+use Rattle.replies.proofs.Parts.{left-length}
 use Rattle.replies.proofs.actions_length.Goals as goal
 
 pub loop-i-preserved : goal.loop-i-preserved

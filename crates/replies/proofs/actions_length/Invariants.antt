@@ -1,14 +1,10 @@
 -- The sum so far and the length of what is left make the whole.
 use Prim.Native.Nat.{◌+◌, ◌-◌, ◌*◌, ◌≤◌}
-use native.Mathlib.Omega.{arith}
-use mathlib.Core.Path.{◌≡◌, ap}
+use mathlib.Core.Path.{◌≡◌}
 use lib.ListN.{length}
-use Rattle.answers.specs.Items.{action_bytes, actions_bytes}
-use Rattle.answers.proofs.Sizes.{action-short}
-use Rattle.replies.specs.Types.{Action}
+use Rattle.answers.specs.Items.{actions_bytes}
 use Rattle.replies.specs.Replies.{acts_of}
-use Rattle.replies.proofs.Parts.{left_bytes, left-start, left-length, left_end}
-use borrow.Author.Rules.{rules}
+use Rattle.replies.proofs.Parts.{left_bytes}
 use Rattle.replies.proofs.actions_length.Given as goal
 
 abbrev pub invariant-loop-i : goal.invariant-loop-i

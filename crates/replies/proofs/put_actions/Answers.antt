@@ -1,7 +1,5 @@
-use Prim.Native.Nat.{◌-◌}
 use native.Mathlib.Omega.{arith}
-use Rattle.replies.proofs.Parts.{Putting, put-start, put-turn, put-room, put-end}
-use borrow.Author.Rules.{rules}
+use Rattle.replies.proofs.Parts.{put-turn, put-room}
 use Rattle.replies.proofs.put_actions.Goals as goal
 
 pub put_action-next-requires : goal.put_action-next-requires

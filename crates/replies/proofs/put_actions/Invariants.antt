@@ -1,8 +1,6 @@
 -- Writing what is left of the actions, from here, gives the whole.
 use Prim.Native.Nat.{◌-◌}
-use native.Mathlib.Omega.{arith}
-use Rattle.replies.proofs.Parts.{Putting, put-start, put-turn, put-room, put-end}
-use borrow.Author.Rules.{rules}
+use Rattle.replies.proofs.Parts.{Putting}
 use Rattle.replies.proofs.put_actions.Given as goal
 
 abbrev pub invariant-loop-i : goal.invariant-loop-i

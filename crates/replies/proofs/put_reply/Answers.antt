@@ -3,8 +3,7 @@ use native.Mathlib.Omega.{arith}
 use mathlib.Core.Path.{sym, ◌∙◌}
 use Rattle.answers.proofs.Writings.{written-append, written_as}
 use Rattle.replies.specs.Replies.{acts_of}
-use Rattle.replies.proofs.Parts.{first_fits, reply-alone, reply-whole, reply-long}
-use borrow.Author.Rules.{rules}
+use Rattle.replies.proofs.Parts.{reply-whole, reply-long}
 use Rattle.replies.proofs.put_reply.Goals as goal
 
 pub put_actions-third-requires : goal.put_actions-third-requires

@@ -1,9 +1,6 @@
-use Prim.Native.Nat.{◌+◌, ◌-◌, ◌/◌, ◌≤◌}
-use native.Mathlib.Omega.{arith}
+use Prim.Native.Nat.{◌-◌, ◌≤◌}
 use Rattle.rows.specs.Lists.{place_of}
 use Rattle.rows.specs.Rows.{rows_from, itself, first_word}
-use Rattle.rows.proofs.Search.{search-le, search-after, search-before, row_fits}
-use borrow.Author.Rules.{rules}
 use Rattle.rows.proofs.below.Given as goal
 
 abbrev pub invariant-loop-lo : goal.invariant-loop-lo

@@ -1,10 +1,8 @@
-use Prim.Native.Nat.{◌+◌, ◌-◌, ◌≤◌}
+use Prim.Native.Nat.{◌+◌}
 use native.Mathlib.Omega.{arith}
-use mathlib.Core.Path.{◌≡◌, refl, sym, ◌∙◌}
-use lib.ListN.{length, set, length-set, replicate}
-use lib.Seq.{sets}
-use Rattle.rows.proofs.Sets.{left_clear, clear-start, clear-turn, clear-end}
-use borrow.Author.Rules.{rules}
+use mathlib.Core.Path.{◌∙◌}
+use lib.ListN.{length-set}
+use Rattle.rows.proofs.Sets.{clear-turn}
 use Rattle.rows.proofs.clear.Goals as goal
 
 pub loop-j-preserved : goal.loop-j-preserved

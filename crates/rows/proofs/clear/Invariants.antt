@@ -1,10 +1,8 @@
-use Prim.Native.Nat.{◌+◌, ◌-◌, ◌≤◌}
-use native.Mathlib.Omega.{arith}
-use mathlib.Core.Path.{◌≡◌, refl, sym, ◌∙◌}
-use lib.ListN.{length, set, length-set, replicate}
+use Prim.Native.Nat.{◌-◌, ◌≤◌}
+use mathlib.Core.Path.{◌≡◌}
+use lib.ListN.{length, replicate}
 use lib.Seq.{sets}
-use Rattle.rows.proofs.Sets.{left_clear, clear-start, clear-turn, clear-end}
-use borrow.Author.Rules.{rules}
+use Rattle.rows.proofs.Sets.{left_clear}
 use Rattle.rows.proofs.clear.Given as goal
 
 abbrev pub invariant-loop-j : goal.invariant-loop-j

@@ -1,10 +1,8 @@
-use Prim.Native.Nat.{◌+◌, ◌-◌, ◌≤◌}
-use native.Mathlib.Omega.{arith}
-use mathlib.Core.Path.{◌≡◌, refl, sym, ◌∙◌}
-use lib.ListN.{length, set, length-set}
+use Prim.Native.Nat.{◌-◌, ◌≤◌}
+use mathlib.Core.Path.{◌≡◌}
+use lib.ListN.{length}
 use Rattle.rows.specs.Rows.{moved}
-use Rattle.rows.proofs.Sets.{left_down, down-start, down_turn, down-end}
-use borrow.Author.Rules.{rules}
+use Rattle.rows.proofs.Sets.{left_down}
 use Rattle.rows.proofs.copy_down.Given as goal
 
 abbrev pub invariant-loop-j : goal.invariant-loop-j

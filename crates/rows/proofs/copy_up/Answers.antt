@@ -1,10 +1,8 @@
-use Prim.Native.Nat.{◌+◌, ◌-◌, ◌≤◌}
+use Prim.Native.Nat.{◌+◌, ◌-◌}
 use native.Mathlib.Omega.{arith}
-use mathlib.Core.Path.{◌≡◌, refl, sym, ◌∙◌}
-use lib.ListN.{length, set, length-set}
-use Rattle.rows.specs.Rows.{moved}
-use Rattle.rows.proofs.Sets.{up_turn, up-end}
-use borrow.Author.Rules.{rules}
+use mathlib.Core.Path.{◌∙◌}
+use lib.ListN.{length-set}
+use Rattle.rows.proofs.Sets.{up_turn}
 use Rattle.rows.proofs.copy_up.Goals as goal
 
 pub loop-j-preserved : goal.loop-j-preserved

@@ -1,7 +1,5 @@
-use mathlib.Core.Path.{refl, sym, ap, ◌∙◌}
-use Rattle.rows.specs.Rows.{slot_of}
-use Rattle.rows.proofs.Answers.{slot-shut, slot-new, opens}
-use borrow.Author.Rules.{rules}
+use mathlib.Core.Path.{sym, ◌∙◌}
+use Rattle.rows.proofs.Answers.{opens}
 use Rattle.rows.proofs.enter.Goals as goal
 
 pub open-requires : goal.open-requires

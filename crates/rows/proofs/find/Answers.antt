@@ -1,8 +1,6 @@
-use native.Mathlib.Omega.{arith}
 use mathlib.Core.Path.{sym, ap₂}
 use Rattle.rows.specs.Lists.{spot_at}
-use Rattle.rows.proofs.Search.{row_fits, search-end, search-hit, search-miss}
-use borrow.Author.Rules.{rules}
+use Rattle.rows.proofs.Search.{search-end, search-hit, search-miss}
 use Rattle.rows.proofs.find.Goals as goal
 
 pub returns-then-n-at : goal.returns-then-n-at

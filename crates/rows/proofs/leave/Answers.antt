@@ -1,9 +1,6 @@
-use native.Mathlib.Omega.{arith}
-use mathlib.Core.Path.{sym, ap, ◌∙◌}
-use Rattle.rows.specs.Rows.{left_count, left_words}
+use mathlib.Core.Path.{sym, ◌∙◌}
 use Rattle.rows.proofs.Search.{search-lt}
 use Rattle.rows.proofs.Answers.{taken-some}
-use borrow.Author.Rules.{rules}
 use Rattle.rows.proofs.leave.Goals as goal
 
 pub close-requires : goal.close-requires

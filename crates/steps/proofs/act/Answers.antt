@@ -4,7 +4,6 @@ use Rattle.framing.specs.Kinds.{body_of}
 use Rattle.framing.proofs.Bodies.{enough}
 use Rattle.events.specs.Events.{event_of}
 use Rattle.events.specs.Signals as sig
-use borrow.Author.Rules.{rules}
 use Rattle.steps.proofs.act.Goals as goal
 
 pub u64_at-requires : goal.u64_at-requires

@@ -7,7 +7,6 @@ use Rattle.framing.proofs.Bodies.{enough}
 use Rattle.events.specs.Events.{event_of}
 use Rattle.events.specs.Signals as sig
 use Rattle.doing.proofs.Doings.{did-as, does-quiet}
-use borrow.Author.Rules.{rules}
 use Rattle.steps.proofs.act_later.Goals as goal
 
 pub u16_at-requires : goal.u16_at-requires

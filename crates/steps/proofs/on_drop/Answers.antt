@@ -1,12 +1,11 @@
 -- In its form it is its call; else it is Malformed.
-use mathlib.Core.Path.{sym, ap, ◌∙◌}
+use mathlib.Core.Path.{ap}
 use Rattle.events.specs.Routes.{results_in}
 use Rattle.events.specs.declared.Event.{Event}
 use Rattle.model.specs.Model.{lent_model}
 use Rattle.doing.proofs.Doings.{does-as, did-as, does-quiet}
 use Rattle.steps.specs.Applied.{effect_of}
 use Rattle.steps.proofs.Arms.{drop_past}
-use borrow.Author.Rules.{rules}
 use Rattle.steps.proofs.on_drop.Goals as goal
 
 pub returns-in_default : goal.returns-in_default

@@ -1,11 +1,10 @@
 -- Whether the destination is held.
-use mathlib.Core.Path.{sym, ap, ◌∙◌}
+use mathlib.Core.Path.{ap, ◌∙◌}
 use mathlib.Core.Bool.{Bool}
 use Rattle.doing.specs.Parts.{quietly}
 use Rattle.model.specs.declared.Answer.TheVariants.{Replied}
 use Rattle.events.specs.Signals.{has_unrouted_of}
 use Rattle.doing.proofs.Doings.{did-as, does-quiet}
-use borrow.Author.Rules.{rules}
 use Rattle.steps.proofs.on_held.Goals as goal
 
 pub returns : goal.returns

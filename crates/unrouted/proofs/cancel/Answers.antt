@@ -1,4 +1,3 @@
-use native.Mathlib.Omega.{arith}
 use mathlib.Core.Path.{sym, ◌∙◌}
 use Rattle.records.specs.Records.{unrouted_id, unrouted_entry}
 use Rattle.rows.specs.Tables.{live}
@@ -7,7 +6,6 @@ use Rattle.tables.specs.Layouts.{unrouted_table}
 use Rattle.rows.proofs.Promises.{hit-lt, here-some, nowhere-none, find_first}
 use Rattle.actions.proofs.Sweeps.{turn-found, turn-missed}
 use Rattle.unrouted.specs.Rules.{cancel_turn}
-use borrow.Author.Rules.{rules}
 use Rattle.unrouted.proofs.cancel.Goals as goal
 
 pub returns-in-Nowhere : goal.returns-in-Nowhere

@@ -11,7 +11,6 @@ use Rattle.tables.specs.Layouts.{unrouted_table, destination_table}
 use Rattle.unrouted.specs.Rules.{is_held, newly_held, holding}
 use Rattle.rows.proofs.Promises.{held-length, held-holds, holds-count}
 use Rattle.unrouted.proofs.Lists.{full-sends, full-held, room-held, room-new, refused, granted}
-use borrow.Author.Rules.{rules}
 use Rattle.unrouted.proofs.enqueue.Goals as goal
 
 pub returns-then-n-ge16 : goal.returns-then-n-ge16

@@ -1,5 +1,4 @@
 use Rattle.rows.proofs.Promises.{never-full}
-use borrow.Author.Rules.{rules}
 use Rattle.unrouted.proofs.enter.Goals as goal
 
 pub returns-in-Full : goal.returns-in-Full

@@ -1,16 +1,11 @@
 use Prim.Native.Nat.{◌-◌, ◌≤◌}
-use native.Mathlib.Omega.{arith}
 use mathlib.Core.Path.{◌≡◌}
 use lib.ListN.{drop}
 use Rattle.rows.specs.Lists.{place_at}
 use Rattle.rows.specs.Tables.{live}
 use Rattle.rows.specs.Moves.{first_at, place_from}
 use Rattle.tables.specs.Layouts.{unrouted_table}
-use Rattle.unrouted.specs.Types.{Bound}
 use Rattle.unrouted.specs.Rules.{goes_to}
-use Rattle.rows.proofs.Promises.{scan-first, scan-here, scan-on, scan-end}
-use Rattle.unrouted.proofs.Turns.{row_at, tested}
-use borrow.Author.Rules.{rules}
 use Rattle.unrouted.proofs.first_to.Given as goal
 
 abbrev pub invariant-loop-at : goal.invariant-loop-at

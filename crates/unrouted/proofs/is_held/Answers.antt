@@ -8,7 +8,6 @@ use Rattle.rows.specs.Tables.{live}
 use Rattle.rows.specs.Moves.Turn.{Keeps}
 use Rattle.tables.specs.Layouts.{destination_table}
 use Rattle.rows.proofs.Promises.{here-some, nowhere-none, find_first, first_found, first-missed}
-use borrow.Author.Rules.{rules}
 use Rattle.unrouted.proofs.is_held.Goals as goal
 
 abbrev held_at : ℕ → Destination → Bool

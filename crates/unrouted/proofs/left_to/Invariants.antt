@@ -1,16 +1,12 @@
-use Prim.Native.Nat.{ℕ, ◌+◌, ◌-◌, ◌≤◌}
-use native.Mathlib.Omega.{arith}
-use mathlib.Core.Path.{◌≡◌, ap, ◌∙◌}
+use Prim.Native.Nat.{ℕ, ◌+◌, ◌≤◌}
+use mathlib.Core.Path.{◌≡◌}
 use lib.ListN.{drop}
 use Rattle.records.specs.Pick.{bit}
 use Rattle.rows.specs.Lists.{fold}
 use Rattle.rows.specs.Tables.{live}
 use Rattle.tables.specs.Layouts.{unrouted_table}
 use Rattle.unrouted.specs.Types.{Unrouted}
-use Rattle.unrouted.specs.Rules.{left_to, left_head}
-use Rattle.rows.proofs.Promises.{fold_start, fold-turn, fold_end}
-use Rattle.unrouted.proofs.Turns.{row_at, count-fold, bit_le}
-use borrow.Author.Rules.{rules}
+use Rattle.unrouted.specs.Rules.{left_to}
 use Rattle.unrouted.proofs.left_to.Given as goal
 
 abbrev pub invariant-loop-i : goal.invariant-loop-i

@@ -1,14 +1,8 @@
-use Prim.Native.Nat.{◌≤◌}
 use native.Mathlib.Omega.{arith}
-use mathlib.Core.Path.{◌≡◌, ap, ◌∙◌}
-use lib.ListN.{drop}
+use mathlib.Core.Path.{ap, ◌∙◌}
 use Rattle.records.specs.Times.{sooner}
-use Rattle.rows.specs.Lists.{fold}
-use Rattle.rows.specs.Tables.{live}
-use Rattle.tables.specs.Layouts.{unrouted_table}
 use Rattle.unrouted.specs.Types.{Unrouted, UnroutedHead, Opt64, None64}
-use Rattle.rows.proofs.Promises.{fold_start, fold-turn, fold_end}
-use borrow.Author.Rules.{rules}
+use Rattle.rows.proofs.Promises.{fold-turn}
 use Rattle.unrouted.proofs.next_wake.Goals as goal
 
 pub loop-i-preserved : goal.loop-i-preserved

@@ -3,7 +3,6 @@ use native.Mathlib.Omega.{arith}
 use mathlib.Core.Path.{sym, ap, ◌∙◌}
 use mathlib.Core.Option.{some}
 use lib.Dec.{eqb}
-use borrow.Author.Tests.{not-true, not-false}
 use Rattle.records.specs.Records.{blank_destination, destination_address}
 use Rattle.records.specs.declared.Destination.{Destination}
 use Rattle.rows.specs.Tables.{live}
@@ -12,7 +11,6 @@ use Rattle.rows.specs.Moves.Turn.{Keeps}
 use Rattle.tables.specs.Layouts.{unrouted_table, destination_table}
 use Rattle.rows.proofs.Promises.{hit-lt, hit-lookup, miss-lookup, held_at, held-holds, here-some, nowhere-none, find_first, first_found}
 use Rattle.unrouted.proofs.Lists.{not-held, none_left, none-waits, spends}
-use borrow.Author.Rules.{rules}
 use Rattle.unrouted.proofs.retry_discovery.Goals as goal
 
 -- one restart less

@@ -1,13 +1,8 @@
 use Prim.Native.Nat.{◌-◌}
-use native.Mathlib.Omega.{arith}
-use mathlib.Core.Bool.{false}
 use Rattle.records.specs.Records.{unrouted_entry}
 use Rattle.tables.specs.Layouts.{unrouted_table}
-use Rattle.actions.proofs.Sweeps.{Sweeping, sweep-start, sweep-quiet, sweep-goes, sweep-end}
-use Rattle.unrouted.specs.Types.{None16, Failure}
+use Rattle.actions.proofs.Sweeps.{Sweeping}
 use Rattle.unrouted.specs.Rules.{sweep_turn}
-use Rattle.unrouted.proofs.Turns.{row_at, tested, turn-chosen, turn-left}
-use borrow.Author.Rules.{rules}
 use Rattle.unrouted.proofs.sweep.Given as goal
 
 abbrev pub invariant-loop-i : goal.invariant-loop-i

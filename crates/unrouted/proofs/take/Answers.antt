@@ -9,7 +9,6 @@ use Rattle.tables.specs.Layouts.{unrouted_table}
 use Rattle.unrouted.specs.Rules.{goes_to, took_of}
 use Rattle.rows.proofs.Promises.{held-length, held_at, here-some, nowhere-none, first_found, first-missed}
 use Rattle.unrouted.proofs.Lists.{drops}
-use borrow.Author.Rules.{rules}
 use Rattle.unrouted.proofs.take.Goals as goal
 
 pub load-u-requires : goal.load-u-requires

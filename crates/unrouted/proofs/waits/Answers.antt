@@ -5,7 +5,6 @@ use Rattle.rows.specs.Moves.Turn.{Keeps}
 use Rattle.tables.specs.Layouts.{unrouted_table}
 use Rattle.unrouted.specs.Rules.{goes_to}
 use Rattle.rows.proofs.Promises.{here-some, nowhere-none, first_found, first-missed}
-use borrow.Author.Rules.{rules}
 use Rattle.unrouted.proofs.waits.Goals as goal
 
 pub returns-in-Here : goal.returns-in-Here

@@ -2,16 +2,15 @@ use mathlib.Core.Path.{◌≡◌, sym, ◌∙◌}
 use mathlib.Core.Bool.{true, false}
 use lib.ListN.{length}
 use lib.Dec.{eqb, leb}
-use borrow.Author.Tests.{eq-eqb, ne_eqb}
+use borrow.Author.Tests.{ne_eqb}
 use Rattle.records.specs.Limits.{no_id, broadcast_room}
 use Rattle.rows.specs.Tables.{live}
 use Rattle.tables.specs.Layouts.{broadcast_table}
 use Rattle.casting.specs.Rules.{no_copies}
 use Rattle.model.specs.Calls.{late, attempt_late}
-use Rattle.doing.specs.Types.{TimeTooLate, NoCopies, IdsExhausted, NoPlace}
+use Rattle.doing.specs.Types.{NoPlace}
 use Rattle.doing.proofs.Doings.{does-deny}
-use Rattle.doing.proofs.Enters.{in-time, is-full, has-place, enters-broadcast}
-use borrow.Author.Rules.{rules}
+use Rattle.doing.proofs.Enters.{is-full}
 use Rattle.admitting.proofs.enqueues.enqueue_broadcast.Goals as goal
 
 pub returns-then-c-ge16 : goal.returns-then-c-ge16

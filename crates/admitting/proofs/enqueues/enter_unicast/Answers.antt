@@ -1,5 +1,4 @@
 use Rattle.rows.proofs.Promises.{never-full}
-use borrow.Author.Rules.{rules}
 use Rattle.admitting.proofs.enqueues.enter_unicast.Goals as goal
 
 pub returns-in-Full : goal.returns-in-Full

@@ -1,8 +1,6 @@
 use mathlib.Core.Path.{refl}
-use Prim.Native.Nat.{◌-◌}
 use native.Mathlib.Omega.{arith}
-use Rattle.admitting.proofs.Routings.{Routing, route-start, route-free, route-some, route-more, route-turn, route-end}
-use borrow.Author.Rules.{rules}
+use Rattle.admitting.proofs.Routings.{route-free, route-some, route-turn, route-end}
 use Rattle.admitting.proofs.routes.route_all.Goals as goal
 
 pub returns-in-Nothing : goal.returns-in-Nothing

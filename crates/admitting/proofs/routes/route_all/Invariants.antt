@@ -1,8 +1,5 @@
-use mathlib.Core.Path.{refl}
 use Prim.Native.Nat.{◌-◌}
-use native.Mathlib.Omega.{arith}
-use Rattle.admitting.proofs.Routings.{Routing, route-start, route-free, route-some, route-more, route-turn, route-end}
-use borrow.Author.Rules.{rules}
+use Rattle.admitting.proofs.Routings.{Routing}
 use Rattle.admitting.proofs.routes.route_all.Given as goal
 
 abbrev pub invariant-loop-i : goal.invariant-loop-i

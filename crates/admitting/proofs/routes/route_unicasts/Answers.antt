@@ -2,11 +2,10 @@ use native.Mathlib.Omega.{arith}
 use mathlib.Core.Path.{◌≡◌, sym, ◌∙◌}
 use mathlib.Core.Bool.{false}
 use lib.ListN.{length}
-use borrow.Author.Tests.{ltb-false}
 use Rattle.model.specs.Calls.{late}
-use Rattle.doing.specs.Types.{TimeTooLate, ResultsMismatch, NoPlace}
+use Rattle.doing.specs.Types.{NoPlace}
 use Rattle.doing.proofs.Doings.{does-as, does-deny}
-use Rattle.admitting.proofs.Routings.{left-few, route-late, route-mismatch, route-full, route-goes}
+use Rattle.admitting.proofs.Routings.{left-few, route-full, route-goes}
 use borrow.Author.Rules.{rules}
 use Rattle.admitting.proofs.routes.route_unicasts.Goals as goal
 

@@ -1,11 +1,8 @@
-use Prim.Native.Nat.{ℕ, ◌+◌, ◌-◌, ◌≤◌}
-use native.Mathlib.Omega.{arith}
-use mathlib.Core.Path.{◌≡◌, ap, ◌∙◌}
-use lib.ListN.{length, take, drop, get_or}
+use Prim.Native.Nat.{◌+◌, ◌≤◌}
+use mathlib.Core.Path.{◌≡◌}
+use lib.ListN.{take, drop}
 use Rattle.rows.specs.Moves.{count}
 use Rattle.model.specs.Calls.{reached}
-use Rattle.admitting.proofs.Routings.{bit-low, count-start, count_turn, count-end}
-use borrow.Author.Rules.{rules}
 use Rattle.admitting.proofs.routes.successes.Given as goal
 
 abbrev pub invariant-loop-i : goal.invariant-loop-i

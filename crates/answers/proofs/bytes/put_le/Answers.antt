@@ -1,11 +1,8 @@
-use Prim.Native.Nat.{ℕ, ◌+◌, ◌-◌, ◌≤◌}
+use Prim.Native.Nat.{ℕ, ◌+◌}
 use native.Mathlib.Omega.{arith}
-use mathlib.Core.Path.{◌≡◌, refl, sym, ap}
-use lib.ListN.{length, length-set}
-use lib.Seq.{sets}
-use Rattle.answers.specs.Bytes.{le_bytes}
-use Rattle.answers.proofs.Writings.{le-long, le-start, le-turn, le-end}
-use borrow.Author.Rules.{rules}
+use mathlib.Core.Path.{sym, ap}
+use lib.ListN.{length-set}
+use Rattle.answers.proofs.Writings.{le-long, le-turn, le-end}
 use Rattle.answers.proofs.bytes.put_le.Goals as goal
 
 pub loop-j-preserved : goal.loop-j-preserved

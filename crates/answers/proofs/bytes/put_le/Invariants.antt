@@ -1,11 +1,8 @@
-use Prim.Native.Nat.{ℕ, ◌+◌, ◌-◌, ◌≤◌}
-use native.Mathlib.Omega.{arith}
-use mathlib.Core.Path.{◌≡◌, refl, sym, ap}
-use lib.ListN.{length, length-set}
+use Prim.Native.Nat.{◌+◌, ◌-◌, ◌≤◌}
+use mathlib.Core.Path.{◌≡◌}
+use lib.ListN.{length}
 use lib.Seq.{sets}
 use Rattle.answers.specs.Bytes.{le_bytes}
-use Rattle.answers.proofs.Writings.{le-long, le-start, le-turn, le-end}
-use borrow.Author.Rules.{rules}
 use Rattle.answers.proofs.bytes.put_le.Given as goal
 
 abbrev pub invariant-loop-j : goal.invariant-loop-j

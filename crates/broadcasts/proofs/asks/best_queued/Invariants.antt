@@ -1,13 +1,9 @@
-use Rattle.casting.specs.Rules.{best_step, best_of}
-use Rattle.casting.specs.declared.Best.TheVariants.{NoBest}
-use Rattle.rows.proofs.Promises.{fold_start, fold-turn, fold_end}
+use Rattle.casting.specs.Rules.{best_of}
 use Rattle.tables.specs.Layouts.{broadcast_table}
 use Rattle.rows.specs.Tables.{live}
 use lib.ListN.{drop}
-use mathlib.Core.Path.{◌≡◌, ◌∙◌}
-use native.Mathlib.Omega.{arith}
+use mathlib.Core.Path.{◌≡◌}
 use Prim.Native.Nat.{◌≤◌}
-use borrow.Author.Rules.{rules}
 use Rattle.broadcasts.proofs.asks.best_queued.Given as goal
 
 abbrev pub invariant-loop-i : goal.invariant-loop-i

@@ -3,7 +3,6 @@ use Rattle.casting.specs.Rules.{in_radio, in_radio_by}
 use Rattle.casting.specs.Types.{BroadcastHead}
 use native.Mathlib.Omega.{arith}
 use mathlib.Core.Path.{refl, sym, ap, ◌∙◌}
-use borrow.Author.Rules.{rules}
 use Rattle.broadcasts.proofs.asks.is_transmitting.Goals as goal
 
 pub head-h-requires : goal.head-h-requires

@@ -1,13 +1,8 @@
-use Rattle.casting.specs.Rules.{wake_head, wake_step, wake_of}
+use Rattle.casting.specs.Rules.{wake_head, wake_step}
 use Rattle.casting.specs.Types.{BroadcastHead, None64}
-use Rattle.rows.proofs.Promises.{fold_start, fold-turn, fold_end}
-use Rattle.tables.specs.Layouts.{broadcast_table}
-use Rattle.rows.specs.Tables.{live}
-use lib.ListN.{drop}
-use mathlib.Core.Path.{◌≡◌, ap, ◌∙◌}
+use Rattle.rows.proofs.Promises.{fold-turn}
+use mathlib.Core.Path.{ap, ◌∙◌}
 use native.Mathlib.Omega.{arith}
-use Prim.Native.Nat.{◌≤◌}
-use borrow.Author.Rules.{rules}
 use Rattle.broadcasts.proofs.asks.next_wake.Goals as goal
 
 pub loop-i-preserved : goal.loop-i-preserved

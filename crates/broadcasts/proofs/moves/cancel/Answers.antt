@@ -4,7 +4,6 @@ use Rattle.casting.proofs.Entries.{same-cancel}
 use Rattle.casting.specs.Rules.{cancel_turn}
 use native.Mathlib.Omega.{arith}
 use mathlib.Core.Path.{refl, sym, ◌∙◌}
-use borrow.Author.Rules.{rules}
 use Rattle.broadcasts.proofs.moves.cancel.Goals as goal
 
 pub load-u-requires : goal.load-u-requires

@@ -6,7 +6,6 @@ use Rattle.rows.proofs.Promises.{here-some, nowhere-none}
 use Rattle.casting.specs.Rules.{keyed, delivered_turn}
 use native.Mathlib.Omega.{arith}
 use mathlib.Core.Path.{sym, ◌∙◌}
-use borrow.Author.Rules.{rules}
 use Rattle.broadcasts.proofs.moves.delivered.Goals as goal
 
 pub load-u-requires : goal.load-u-requires

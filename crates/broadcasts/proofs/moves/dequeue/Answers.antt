@@ -2,7 +2,6 @@ use Rattle.broadcasts.proofs.Found.{missed-lent, found_lt, found-lent}
 use Rattle.records.specs.Records.{broadcast_id}
 use native.Mathlib.Omega.{arith}
 use mathlib.Core.Path.{sym, ap, ◌∙◌}
-use borrow.Author.Rules.{rules}
 use Rattle.broadcasts.proofs.moves.dequeue.Goals as goal
 
 pub load-u-requires : goal.load-u-requires

@@ -1,10 +1,9 @@
-use Rattle.broadcasts.proofs.Found.{not-true, not-false, report-out, report-other, report-in, missed-answer, found_lt, barred, done}
+use Rattle.broadcasts.proofs.Found.{report-out, report-other, report-in, missed-answer, found_lt, barred, done}
 use Rattle.broadcasts.proofs.Plays.{plays}
 use Rattle.casting.proofs.Entries.{same-report}
 use Rattle.casting.specs.Rules.{report_turn}
 use native.Mathlib.Omega.{arith}
 use mathlib.Core.Path.{refl, sym, ◌∙◌}
-use borrow.Author.Rules.{rules}
 use Rattle.broadcasts.proofs.moves.report.Goals as goal
 
 pub load-u-requires : goal.load-u-requires

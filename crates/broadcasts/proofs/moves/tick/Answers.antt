@@ -2,7 +2,6 @@ use mathlib.Core.Path.{sym, ◌∙◌}
 use Rattle.actions.proofs.Sweeps.{swept_none}
 use Rattle.casting.specs.Rules.{may_stir}
 use Rattle.casting.proofs.Ticks.{rests}
-use borrow.Author.Rules.{rules}
 use Rattle.broadcasts.proofs.moves.tick.Goals as goal
 
 pub returns : goal.returns

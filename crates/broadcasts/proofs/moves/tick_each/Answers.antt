@@ -2,12 +2,8 @@ use Rattle.casting.proofs.Scans.{row_at, stirs-tested}
 use Rattle.broadcasts.proofs.Plays.{played-count, sweep-played}
 use Rattle.casting.proofs.Ticks.{quiet}
 use Rattle.casting.specs.Rules.{tick_turn}
-use Rattle.actions.proofs.Sweeps.{Sweeping, sweep-start, sweep-quiet, sweep-end}
-use Rattle.tables.specs.Layouts.{broadcast_table}
-use Rattle.records.specs.Records.{broadcast_entry}
+use Rattle.actions.proofs.Sweeps.{sweep-quiet, sweep-end}
 use native.Mathlib.Omega.{arith}
-use Prim.Native.Nat.{◌-◌}
-use borrow.Author.Rules.{rules}
 use Rattle.broadcasts.proofs.moves.tick_each.Goals as goal
 
 pub overflow_sub-i : goal.overflow_sub-i

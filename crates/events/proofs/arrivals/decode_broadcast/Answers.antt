@@ -1,7 +1,6 @@
 use mathlib.Core.Path.{ap, ◌∙◌}
 use Rattle.fields.specs.Parts.{priority_by}
 use Rattle.events.specs.Arrivals.{broadcast_with, broadcast_of}
-use borrow.Author.Rules.{rules}
 use Rattle.events.proofs.arrivals.decode_broadcast.Goals as goal
 
 pub returns : goal.returns

@@ -1,6 +1,5 @@
 use Rattle.events.specs.Arrivals.{copy_of}
 use Rattle.events.specs.Types.{OnCopy}
-use borrow.Author.Rules.{rules}
 use Rattle.events.proofs.arrivals.decode_copy.Goals as goal
 
 pub returns-in-IsUnicast : goal.returns-in-IsUnicast

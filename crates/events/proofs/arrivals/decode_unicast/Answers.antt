@@ -1,6 +1,5 @@
 use Rattle.events.specs.Arrivals.{unicast_of}
 use Rattle.events.specs.Types.{OnUnicast}
-use borrow.Author.Rules.{rules}
 use Rattle.events.proofs.arrivals.decode_unicast.Goals as goal
 
 pub returns-in-IsUnicast : goal.returns-in-IsUnicast

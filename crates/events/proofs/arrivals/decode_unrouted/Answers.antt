@@ -1,7 +1,6 @@
 use mathlib.Core.Path.{ap, ◌∙◌}
 use Rattle.fields.specs.Parts.{priority_by}
 use Rattle.events.specs.Arrivals.{unrouted_with, unrouted_of}
-use borrow.Author.Rules.{rules}
 use Rattle.events.proofs.arrivals.decode_unrouted.Goals as goal
 
 pub returns : goal.returns

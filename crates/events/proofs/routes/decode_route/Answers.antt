@@ -1,7 +1,6 @@
 use borrow.Author.Tests.{lt-ltb, le-ltb}
 use Rattle.events.specs.Routes.{route_of}
 use Rattle.events.specs.Types.{OnRoute}
-use borrow.Author.Rules.{rules}
 use Rattle.events.proofs.routes.decode_route.Goals as goal
 
 pub returns-then-count-gt16 : goal.returns-then-count-gt16

@@ -1,9 +1,7 @@
 use mathlib.Core.Bool.{true, false}
 use mathlib.Core.Path.{◌≡◌, refl, sym, ◌∙◌}
-use Rattle.events.specs.Routes.{entry_right, entries_right}
-use Prim.Native.Nat.{◌≤◌, ◌-◌}
+use Rattle.events.specs.Routes.{entry_right}
 use native.Mathlib.Omega.{arith}
-use borrow.Author.Tests.{not-true, not-false}
 use Rattle.events.proofs.Sixteen.{still, stops}
 use borrow.Author.Rules.{rules}
 use Rattle.events.proofs.routes.entries_right.Goals as goal

@@ -1,7 +1,6 @@
 -- A body too short for them, or the sixteen.
 use borrow.Author.Tests.{lt-ltb, le-ltb}
 use Rattle.events.specs.Routes.{results_in}
-use borrow.Author.Rules.{rules}
 use Rattle.events.proofs.routes.results_in.Goals as goal
 
 pub returns-then-b-lt235 : goal.returns-then-b-lt235

@@ -1,9 +1,7 @@
 use mathlib.Core.Path.{◌≡◌, refl, ap, ◌∙◌}
-use Rattle.events.specs.Routes.{result_in, results_from, results_of}
-use Prim.Native.Nat.{◌≤◌, ◌-◌}
+use Rattle.events.specs.Routes.{result_in, results_of}
 use native.Mathlib.Omega.{arith}
-use lib.Seq.{sets}
-use lib.ListN.{length, length-set}
+use lib.ListN.{length-set}
 use Rattle.events.proofs.Sixteen.{stored}
 use borrow.Author.Rules.{rules}
 use Rattle.events.proofs.routes.route_results.Goals as goal

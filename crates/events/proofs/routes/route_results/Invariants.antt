@@ -1,11 +1,8 @@
-use mathlib.Core.Path.{◌≡◌, refl, ap, ◌∙◌}
-use Rattle.events.specs.Routes.{result_in, results_from, results_of}
+use mathlib.Core.Path.{◌≡◌}
+use Rattle.events.specs.Routes.{results_from}
 use Prim.Native.Nat.{◌≤◌, ◌-◌}
-use native.Mathlib.Omega.{arith}
 use lib.Seq.{sets}
-use lib.ListN.{length, length-set}
-use Rattle.events.proofs.Sixteen.{stored}
-use borrow.Author.Rules.{rules}
+use lib.ListN.{length}
 use Rattle.events.proofs.routes.route_results.Given as goal
 
 abbrev pub invariant-loop-i : goal.invariant-loop-i

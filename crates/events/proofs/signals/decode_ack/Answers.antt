@@ -1,5 +1,4 @@
 use Rattle.events.specs.Signals.{ack_of}
-use borrow.Author.Rules.{rules}
 use Rattle.events.proofs.signals.decode_ack.Goals as goal
 
 pub returns-in-IsKey : goal.returns-in-IsKey

@@ -1,7 +1,6 @@
 use mathlib.Core.Path.{ap}
 use Rattle.events.specs.Signals.{cancel_of}
 use Rattle.events.specs.Types.{OnCancel}
-use borrow.Author.Rules.{rules}
 use Rattle.events.proofs.signals.decode_cancel.Goals as goal
 
 pub returns : goal.returns

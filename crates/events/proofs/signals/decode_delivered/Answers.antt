@@ -1,6 +1,5 @@
 use Rattle.events.specs.Signals.{delivered_of}
 use Rattle.events.specs.Types.{OnDelivered}
-use borrow.Author.Rules.{rules}
 use Rattle.events.proofs.signals.decode_delivered.Goals as goal
 
 pub returns : goal.returns

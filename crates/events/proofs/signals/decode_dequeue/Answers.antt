@@ -1,7 +1,6 @@
 use mathlib.Core.Path.{ap}
 use Rattle.events.specs.Signals.{dequeue_of}
 use Rattle.events.specs.Types.{OnDequeue}
-use borrow.Author.Rules.{rules}
 use Rattle.events.proofs.signals.decode_dequeue.Goals as goal
 
 pub returns : goal.returns

@@ -2,7 +2,6 @@ use mathlib.Core.Path.{ap, ap₂, ◌∙◌}
 use Rattle.fields.specs.Parts.{opt64_by}
 use Rattle.events.specs.Signals.{drop_of}
 use Rattle.events.specs.Types.{OnDrop}
-use borrow.Author.Rules.{rules}
 use Rattle.events.proofs.signals.decode_drop.Goals as goal
 
 pub returns-in-Is64 : goal.returns-in-Is64

@@ -1,7 +1,6 @@
 use mathlib.Core.Path.{ap}
 use Rattle.events.specs.Signals.{fail_of}
 use Rattle.events.specs.Types.{OnFail}
-use borrow.Author.Rules.{rules}
 use Rattle.events.proofs.signals.decode_fail.Goals as goal
 
 pub returns : goal.returns

@@ -1,6 +1,5 @@
 use mathlib.Core.Path.{ap, ◌∙◌}
 use Rattle.events.specs.Signals.{awaiting_event, has_awaiting_of}
-use borrow.Author.Rules.{rules}
 use Rattle.events.proofs.signals.decode_has_awaiting.Goals as goal
 
 pub returns : goal.returns

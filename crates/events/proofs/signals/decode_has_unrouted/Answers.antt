@@ -1,7 +1,6 @@
 use mathlib.Core.Path.{ap}
 use Rattle.events.specs.Signals.{has_unrouted_of}
 use Rattle.events.specs.Types.{OnHasUnrouted}
-use borrow.Author.Rules.{rules}
 use Rattle.events.proofs.signals.decode_has_unrouted.Goals as goal
 
 pub returns : goal.returns

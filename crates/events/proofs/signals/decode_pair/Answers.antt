@@ -1,7 +1,6 @@
 use mathlib.Core.Path.{ap₂}
 use Rattle.events.specs.Signals.{pair_of}
 use Rattle.events.specs.Types.{OnPair}
-use borrow.Author.Rules.{rules}
 use Rattle.events.proofs.signals.decode_pair.Goals as goal
 
 pub returns : goal.returns

@@ -1,7 +1,6 @@
 use mathlib.Core.Path.{ap₂, ◌∙◌}
 use Rattle.fields.specs.Parts.{opt16_by, opt64_by}
 use Rattle.events.specs.Signals.{poll_with, poll_of}
-use borrow.Author.Rules.{rules}
 use Rattle.events.proofs.signals.decode_poll.Goals as goal
 
 pub returns : goal.returns

@@ -1,7 +1,6 @@
 use mathlib.Core.Path.{ap, ap₂, ◌∙◌}
 use Rattle.fields.specs.Parts.{lender_by, result_by}
 use Rattle.events.specs.Signals.{report_with, report_of}
-use borrow.Author.Rules.{rules}
 use Rattle.events.proofs.signals.decode_report.Goals as goal
 
 pub returns : goal.returns

@@ -1,7 +1,6 @@
 use mathlib.Core.Path.{ap}
 use Rattle.events.specs.Signals.{retry_of}
 use Rattle.events.specs.Types.{OnRetry}
-use borrow.Author.Rules.{rules}
 use Rattle.events.proofs.signals.decode_retry.Goals as goal
 
 pub returns : goal.returns

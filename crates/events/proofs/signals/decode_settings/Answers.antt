@@ -2,7 +2,6 @@
 use mathlib.Core.Path.{ap}
 use Rattle.events.specs.Signals.{settings_of}
 use Rattle.events.specs.Types.{OnSettings}
-use borrow.Author.Rules.{rules}
 use Rattle.events.proofs.signals.decode_settings.Goals as goal
 
 pub returns : goal.returns

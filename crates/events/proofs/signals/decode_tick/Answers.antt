@@ -1,7 +1,6 @@
 use mathlib.Core.Path.{ap}
 use Rattle.events.specs.Signals.{tick_of}
 use Rattle.events.specs.Types.{OnTick}
-use borrow.Author.Rules.{rules}
 use Rattle.events.proofs.signals.decode_tick.Goals as goal
 
 pub returns : goal.returns

@@ -2,7 +2,6 @@ use Rattle.fields.proofs.Widths.{le-more}
 use mathlib.Core.Path.{ap₂, sym, ◌∙◌}
 use Prim.Native.Nat.{ℕ, ◌+◌, ◌*◌}
 use native.Mathlib.Omega.{arith}
-use borrow.Author.Rules.{rules}
 use Rattle.fields.proofs.numbers.u32_at.Goals as goal
 
 pub returns : goal.returns

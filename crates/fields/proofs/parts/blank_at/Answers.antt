@@ -1,6 +1,5 @@
 use native.Mathlib.Omega.{arith}
-use Rattle.fields.proofs.Zeros.{first, second, third}
-use borrow.Author.Rules.{rules}
+use Rattle.fields.proofs.Zeros.{second, third}
 use Rattle.fields.proofs.parts.blank_at.Goals as goal
 
 pub returns-then-second-ne0 : goal.returns-then-second-ne0

@@ -1,6 +1,5 @@
 use mathlib.Core.Path.{sym}
 use Rattle.framing.proofs.Bodies.{in_table, past-table}
-use borrow.Author.Rules.{rules}
 use Rattle.framing.proofs.kinds.body_length.Goals as goal
 
 pub returns-then-kind-lt142 : goal.returns-then-kind-lt142

@@ -1,12 +1,11 @@
 use mathlib.Core.Path.{◌≡◌, sym, ◌∙◌}
-use mathlib.Core.Bool.{true, false}
+use mathlib.Core.Bool.{false}
 use Rattle.model.specs.Model.{lent_model}
 use Rattle.model.specs.Calls.{late}
-use Rattle.doing.specs.Types.{TimeTooLate, NothingQueued}
-use Rattle.doing.proofs.Doings.{does-as, did-as, does-deny, does-quiet}
+use Rattle.doing.specs.Types.{NothingQueued}
+use Rattle.doing.proofs.Doings.{does-as, did-as, does-quiet}
 use Rattle.lending.specs.declared.radio.Chosen.TheVariants.{NoSend, OneUnicast, OneBroadcast}
 use Rattle.lending.proofs.Chosen.{chosen_is}
-use borrow.Author.Rules.{rules}
 use Rattle.lending.proofs.radio.dequeue.Goals as goal
 
 pub returns-in-NoSend : goal.returns-in-NoSend

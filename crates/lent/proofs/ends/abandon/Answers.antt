@@ -1,12 +1,5 @@
-use native.Mathlib.Omega.{arith}
 use mathlib.Core.Path.{refl}
-use lib.ListN.{length-map}
-use Rattle.records.specs.Records.{unicast_entry, unrouted_entry}
-use Rattle.rows.specs.Tables.{live}
-use Rattle.rows.proofs.Promises.{held-length}
-use Rattle.tables.specs.Layouts.{unicast_table, unrouted_table}
 use Rattle.lent.proofs.Listings.{listed-append}
-use borrow.Author.Rules.{rules}
 use Rattle.lent.proofs.ends.abandon.Goals as goal
 
 pub returns : goal.returns

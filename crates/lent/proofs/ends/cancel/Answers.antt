@@ -5,7 +5,6 @@ use Rattle.rows.specs.Tables.{live}
 use Rattle.rows.specs.Moves.{any_of, has_id}
 use Rattle.tables.specs.Layouts.{unicast_table, unrouted_table}
 use Rattle.lent.proofs.Barrings.{found-any, missed-any}
-use borrow.Author.Rules.{rules}
 use Rattle.lent.proofs.ends.cancel.Goals as goal
 
 pub returns-in-Here : goal.returns-in-Here

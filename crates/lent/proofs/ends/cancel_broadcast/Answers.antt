@@ -18,7 +18,6 @@ use Rattle.model.specs.Model.{lent_model}
 use Rattle.model.proofs.Fews.{first_two}
 use Rattle.doing.specs.Types.{NoSuchSend, InTheRadio}
 use Rattle.lent.proofs.Barrings.{does-barred, answered-as, cast-sent, cast-own}
-use borrow.Author.Rules.{rules}
 use Rattle.lent.proofs.ends.cancel_broadcast.Goals as goal
 
 pub returns-in-Nowhere : goal.returns-in-Nowhere

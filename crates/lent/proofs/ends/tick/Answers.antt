@@ -1,6 +1,6 @@
 use native.Mathlib.Omega.{arith}
 use mathlib.Core.Path.{◌≡◌, refl, sym, ◌∙◌}
-use mathlib.Core.Bool.{true, false}
+use mathlib.Core.Bool.{false}
 use Rattle.records.specs.Records.{unicast_entry}
 use Rattle.rows.specs.Tables.{live}
 use Rattle.rows.proofs.Promises.{held-length, held-holds}
@@ -10,9 +10,6 @@ use Rattle.unrouted.specs.declared.Which.TheVariants.{Lapsed}
 use Rattle.actions.proofs.Lines.{told-append}
 use Rattle.model.specs.Calls.{late}
 use Rattle.model.proofs.Fews.{each_two, sweep-one}
-use Rattle.doing.specs.Types.{TimeTooLate}
-use Rattle.doing.proofs.Doings.{does-deny}
-use borrow.Author.Rules.{rules}
 use Rattle.lent.proofs.ends.tick.Goals as goal
 
 pub returns : goal.returns

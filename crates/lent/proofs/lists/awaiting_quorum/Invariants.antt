@@ -1,14 +1,11 @@
-use Prim.Native.Nat.{◌+◌, ◌-◌, ◌≤◌}
-use native.Mathlib.Omega.{arith}
-use mathlib.Core.Path.{refl}
-use mathlib.Core.List.{[], map}
+use Prim.Native.Nat.{◌-◌, ◌≤◌}
+use mathlib.Core.List.{map}
 use lib.ListN.{drop}
 use Rattle.codes.specs.Codes.{quorum_word}
 use Rattle.rows.specs.Tables.{live}
 use Rattle.tables.specs.Layouts.{broadcast_table}
-use Rattle.casting.specs.Rules.{listed, awaited_of}
-use Rattle.lent.proofs.Fillings.{Filling, fill_start, fill-turn, fill_end, key-low, keys-left, keys_none}
-use borrow.Author.Rules.{rules}
+use Rattle.casting.specs.Rules.{awaited_of}
+use Rattle.lent.proofs.Fillings.{Filling}
 use Rattle.lent.proofs.lists.awaiting_quorum.Given as goal
 
 abbrev pub invariant-loop-i : goal.invariant-loop-i

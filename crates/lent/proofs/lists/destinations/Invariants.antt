@@ -1,13 +1,10 @@
-use Prim.Native.Nat.{◌+◌, ◌-◌, ◌≤◌}
-use native.Mathlib.Omega.{arith}
-use mathlib.Core.Path.{refl}
-use mathlib.Core.List.{[], ◌∷◌, map}
+use Prim.Native.Nat.{◌-◌, ◌≤◌}
+use mathlib.Core.List.{map}
 use lib.ListN.{drop}
 use Rattle.records.specs.Records.{destination_address}
 use Rattle.rows.specs.Tables.{live}
 use Rattle.tables.specs.Layouts.{destination_table}
-use Rattle.lent.proofs.Fillings.{Filling, fill_start, fill_one, fill-turn, fill_end, left-cons, left-none}
-use borrow.Author.Rules.{rules}
+use Rattle.lent.proofs.Fillings.{Filling}
 use Rattle.lent.proofs.lists.destinations.Given as goal
 
 abbrev pub invariant-loop-i : goal.invariant-loop-i

@@ -1,9 +1,6 @@
-use Prim.Native.Nat.{◌-◌, ◌≤◌}
 use native.Mathlib.Omega.{arith}
 use Rattle.records.specs.Records.{broadcast_entry}
-use Rattle.tables.specs.Layouts.{broadcast_table}
-use Rattle.lent.proofs.Listings.{Listing, list-start, list-turn, list-end}
-use borrow.Author.Rules.{rules}
+use Rattle.lent.proofs.Listings.{list-turn, list-end}
 use Rattle.lent.proofs.lists.list_broadcasts.Goals as goal
 
 pub loop-i-preserved : goal.loop-i-preserved

@@ -1,9 +1,7 @@
 use Prim.Native.Nat.{◌-◌, ◌≤◌}
-use native.Mathlib.Omega.{arith}
 use Rattle.records.specs.Records.{unicast_entry}
 use Rattle.tables.specs.Layouts.{unicast_table}
-use Rattle.lent.proofs.Listings.{Listing, list-start, list-turn, list-end}
-use borrow.Author.Rules.{rules}
+use Rattle.lent.proofs.Listings.{Listing}
 use Rattle.lent.proofs.lists.list_unicasts.Given as goal
 
 abbrev pub invariant-loop-i : goal.invariant-loop-i

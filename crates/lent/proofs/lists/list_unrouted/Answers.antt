@@ -1,9 +1,6 @@
-use Prim.Native.Nat.{◌-◌, ◌≤◌}
 use native.Mathlib.Omega.{arith}
 use Rattle.records.specs.Records.{unrouted_entry}
-use Rattle.tables.specs.Layouts.{unrouted_table}
-use Rattle.lent.proofs.Listings.{Listing, list-start, list-turn, list-end}
-use borrow.Author.Rules.{rules}
+use Rattle.lent.proofs.Listings.{list-turn, list-end}
 use Rattle.lent.proofs.lists.list_unrouted.Goals as goal
 
 pub loop-i-preserved : goal.loop-i-preserved

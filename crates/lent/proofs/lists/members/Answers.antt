@@ -1,4 +1,3 @@
-use Prim.Native.Nat.{◌-◌}
 use native.Mathlib.Omega.{arith}
 use mathlib.Core.Path.{refl, sym, ◌∙◌}
 use mathlib.Core.List.{[], ◌∷◌}
@@ -7,8 +6,7 @@ use Rattle.rows.proofs.Promises.{held-length}
 use Rattle.tables.specs.Layouts.{unicast_table}
 use Rattle.model.specs.Steps.{members_of}
 use Rattle.doing.specs.Types.{Some64}
-use Rattle.lent.proofs.Fillings.{Filling, fill_start, fill_one, fill-turn, fill_end, after, after_none, members-few, next-left, next-none}
-use borrow.Author.Rules.{rules}
+use Rattle.lent.proofs.Fillings.{fill_start, fill_one, fill-turn, fill_end, after, after_none, members-few, next-left, next-none}
 use Rattle.lent.proofs.lists.members.Goals as goal
 
 pub loop-m-init : goal.loop-m-init

@@ -1,7 +1,5 @@
-use Prim.Native.Nat.{◌-◌}
 use native.Mathlib.Omega.{arith}
-use Rattle.listings.proofs.Inserts.{Carrying, carry-start, carry-turn, carry-end}
-use borrow.Author.Rules.{rules}
+use Rattle.listings.proofs.Inserts.{carry-turn}
 use Rattle.listings.proofs.maps.insert_short.Goals as goal
 
 pub loop-i-preserved : goal.loop-i-preserved

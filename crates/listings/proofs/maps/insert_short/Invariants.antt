@@ -1,8 +1,6 @@
 -- What is carried on moves the rest up by one.
 use Prim.Native.Nat.{◌-◌}
-use native.Mathlib.Omega.{arith}
-use Rattle.listings.proofs.Inserts.{Carrying, carry-start, carry-turn, carry-end}
-use borrow.Author.Rules.{rules}
+use Rattle.listings.proofs.Inserts.{Carrying}
 use Rattle.listings.proofs.maps.insert_short.Given as goal
 
 abbrev pub invariant-loop-i : goal.invariant-loop-i

@@ -1,7 +1,6 @@
 -- The number at the place is x or not.
 use native.Mathlib.Omega.{arith}
 use Rattle.listings.proofs.Pairings.{read-there, read_past}
-use borrow.Author.Rules.{rules}
 use Rattle.listings.proofs.maps.is_there.Goals as goal
 
 pub returns-then-p-n : goal.returns-then-p-n

@@ -1,12 +1,8 @@
 -- How many are below, by what is left.
 use Prim.Native.Nat.{◌+◌, ◌-◌, ◌≤◌}
-use native.Mathlib.Nat.{zero-add}
-use native.Mathlib.Omega.{arith}
-use mathlib.Core.Path.{◌≡◌, ◌∙◌}
+use mathlib.Core.Path.{◌≡◌}
 use lib.ListN.{take, drop}
 use Rattle.listings.specs.Maps.{place_in}
-use Rattle.listings.proofs.Pairings.{read_here, read-on, read-end}
-use borrow.Author.Rules.{rules}
 use Rattle.listings.proofs.maps.place_of.Given as goal
 
 abbrev pub invariant-loop-i : goal.invariant-loop-i

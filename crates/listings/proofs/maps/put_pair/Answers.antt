@@ -2,7 +2,6 @@
 use native.Mathlib.Omega.{arith}
 use mathlib.Core.Path.{sym, ◌∙◌}
 use Rattle.listings.proofs.Pairings.{place-few, place-there, below-room, pair-there, pair-full, pair-new}
-use borrow.Author.Rules.{rules}
 use Rattle.listings.proofs.maps.put_pair.Goals as goal
 
 pub offset_bounds-nwk-p : goal.offset_bounds-nwk-p

@@ -1,14 +1,8 @@
-use Rattle.rows.proofs.Promises.{scan-first, scan-here, scan-on, scan-end, here-some, nowhere-none}
-use Rattle.rows.specs.Moves.{first_at, place_from}
-use Rattle.rows.specs.Lists.{place_at}
-use lib.ListN.{drop}
+use Rattle.rows.proofs.Promises.{scan-first, scan-here, scan-end, here-some, nowhere-none}
 use Rattle.sending.specs.Rules.{stirs}
 use Rattle.scanning.proofs.Scans.{sends, any-there, any_none}
-use Prim.Native.Nat.{◌-◌, ◌≤◌}
 use native.Mathlib.Omega.{arith}
 use Rattle.scanning.proofs.Places.{said}
-use mathlib.Core.Path.{◌≡◌}
-use borrow.Author.Rules.{rules}
 use Rattle.scanning.proofs.asks.any_stirs.Goals as goal
 
 pub loop-j-init : goal.loop-j-init

@@ -1,14 +1,10 @@
-use Rattle.rows.proofs.Promises.{scan-first, scan-here, scan-on, scan-end, here-some, nowhere-none}
 use Rattle.rows.specs.Moves.{first_at, place_from}
 use Rattle.rows.specs.Lists.{place_at}
 use lib.ListN.{drop}
 use Rattle.sending.specs.Rules.{stirs}
-use Rattle.scanning.proofs.Scans.{sends, any-there, any_none}
+use Rattle.scanning.proofs.Scans.{sends}
 use Prim.Native.Nat.{◌-◌, ◌≤◌}
-use native.Mathlib.Omega.{arith}
-use Rattle.scanning.proofs.Places.{said}
 use mathlib.Core.Path.{◌≡◌}
-use borrow.Author.Rules.{rules}
 use Rattle.scanning.proofs.asks.any_stirs.Given as goal
 
 abbrev pub invariant-loop-j : goal.invariant-loop-j

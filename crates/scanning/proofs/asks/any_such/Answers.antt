@@ -1,6 +1,5 @@
 use Rattle.sending.specs.Rules.{sought}
 use Rattle.scanning.proofs.Scans.{scan-some, scan-none, any-there, any_none}
-use borrow.Author.Rules.{rules}
 use Rattle.scanning.proofs.asks.any_such.Goals as goal
 
 pub returns-in-Here : goal.returns-in-Here

@@ -1,13 +1,8 @@
-use Rattle.rows.proofs.Promises.{fold_start, fold-turn, fold_end}
-use Rattle.rows.specs.Lists.{fold}
-use lib.ListN.{drop}
+use Rattle.rows.proofs.Promises.{fold-turn}
 use Rattle.sending.specs.Lists.{best_step}
 use Rattle.sending.specs.declared.Best.TheVariants.{NoneReady}
-use Rattle.scanning.proofs.Scans.{sends}
-use Prim.Native.Nat.{◌-◌, ◌≤◌}
 use native.Mathlib.Omega.{arith}
-use mathlib.Core.Path.{◌≡◌, ◌∙◌}
-use borrow.Author.Rules.{rules}
+use mathlib.Core.Path.{◌∙◌}
 use Rattle.scanning.proofs.asks.best_queued.Goals as goal
 
 pub loop-i-preserved : goal.loop-i-preserved

@@ -1,13 +1,10 @@
-use Rattle.rows.proofs.Promises.{fold_start, fold-turn, fold_end}
 use Rattle.rows.specs.Lists.{fold}
 use lib.ListN.{drop}
 use Rattle.sending.specs.Lists.{best_step}
 use Rattle.sending.specs.declared.Best.TheVariants.{NoneReady}
 use Rattle.scanning.proofs.Scans.{sends}
-use Prim.Native.Nat.{◌-◌, ◌≤◌}
-use native.Mathlib.Omega.{arith}
-use mathlib.Core.Path.{◌≡◌, ◌∙◌}
-use borrow.Author.Rules.{rules}
+use Prim.Native.Nat.{◌≤◌}
+use mathlib.Core.Path.{◌≡◌}
 use Rattle.scanning.proofs.asks.best_queued.Given as goal
 
 abbrev pub invariant-loop-i : goal.invariant-loop-i

@@ -4,7 +4,6 @@ use Rattle.sending.specs.Rules.{beside}
 use Rattle.sending.proofs.Turns.{beside_none}
 use Rattle.scanning.proofs.Scans.{sends}
 use mathlib.Core.Path.{sym, ap, ◌∙◌}
-use borrow.Author.Rules.{rules}
 use Rattle.scanning.proofs.asks.frame_pending.Goals as goal
 
 pub returns-in-Absent : goal.returns-in-Absent

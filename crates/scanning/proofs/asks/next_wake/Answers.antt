@@ -1,14 +1,9 @@
-use Rattle.rows.proofs.Promises.{fold_start, fold-turn, fold_end}
-use Rattle.rows.specs.Lists.{fold}
-use lib.ListN.{drop}
+use Rattle.rows.proofs.Promises.{fold-turn}
 use Rattle.sending.specs.Lists.{wake_step}
 use Rattle.sending.specs.Rules.{wake_head}
 use Rattle.sending.specs.Types.{UnicastHead, None64}
-use Rattle.scanning.proofs.Scans.{sends}
-use Prim.Native.Nat.{◌-◌, ◌≤◌}
 use native.Mathlib.Omega.{arith}
-use mathlib.Core.Path.{◌≡◌, ap, ◌∙◌}
-use borrow.Author.Rules.{rules}
+use mathlib.Core.Path.{ap, ◌∙◌}
 use Rattle.scanning.proofs.asks.next_wake.Goals as goal
 
 pub loop-left-preserved : goal.loop-left-preserved

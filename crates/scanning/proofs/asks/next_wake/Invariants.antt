@@ -1,14 +1,10 @@
-use Rattle.rows.proofs.Promises.{fold_start, fold-turn, fold_end}
 use Rattle.rows.specs.Lists.{fold}
 use lib.ListN.{drop}
 use Rattle.sending.specs.Lists.{wake_step}
-use Rattle.sending.specs.Rules.{wake_head}
-use Rattle.sending.specs.Types.{UnicastHead, None64}
+use Rattle.sending.specs.Types.{None64}
 use Rattle.scanning.proofs.Scans.{sends}
-use Prim.Native.Nat.{◌-◌, ◌≤◌}
-use native.Mathlib.Omega.{arith}
-use mathlib.Core.Path.{◌≡◌, ap, ◌∙◌}
-use borrow.Author.Rules.{rules}
+use Prim.Native.Nat.{◌≤◌}
+use mathlib.Core.Path.{◌≡◌}
 use Rattle.scanning.proofs.asks.next_wake.Given as goal
 
 abbrev pub invariant-loop-left : goal.invariant-loop-left

@@ -1,10 +1,5 @@
-use Rattle.sending.proofs.Members.{map-out, map-here, map_on, map-end}
-use Rattle.sending.specs.Members.{mapped_in}
-use lib.ListN.{length, drop}
-use Prim.Native.Nat.{◌-◌, ◌≤◌}
+use Rattle.sending.proofs.Members.{map-out, map_on}
 use native.Mathlib.Omega.{arith}
-use mathlib.Core.Path.{◌≡◌, refl}
-use borrow.Author.Rules.{rules}
 use Rattle.scanning.proofs.sets.mapped.Goals as goal
 
 pub returns-then-l-i : goal.returns-then-l-i

@@ -1,10 +1,7 @@
-use Rattle.sending.proofs.Members.{map-out, map-here, map_on, map-end}
 use Rattle.sending.specs.Members.{mapped_in}
 use lib.ListN.{length, drop}
 use Prim.Native.Nat.{◌-◌, ◌≤◌}
-use native.Mathlib.Omega.{arith}
-use mathlib.Core.Path.{◌≡◌, refl}
-use borrow.Author.Rules.{rules}
+use mathlib.Core.Path.{◌≡◌}
 use Rattle.scanning.proofs.sets.mapped.Given as goal
 
 abbrev pub invariant-loop-i : goal.invariant-loop-i

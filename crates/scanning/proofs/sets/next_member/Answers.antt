@@ -1,13 +1,8 @@
-use Rattle.scanning.proofs.Scans.{sends}
 use Rattle.sending.specs.Members.{member_head, least_with, least_step, member_of}
 use Rattle.sending.specs.Types.{Opt64, None64}
-use Rattle.rows.proofs.Promises.{fold_start, fold-turn, fold_end}
-use Rattle.rows.specs.Lists.{fold}
-use lib.ListN.{drop}
-use Prim.Native.Nat.{◌≤◌}
+use Rattle.rows.proofs.Promises.{fold-turn}
 use native.Mathlib.Omega.{arith}
-use mathlib.Core.Path.{◌≡◌, ap, ◌∙◌}
-use borrow.Author.Rules.{rules}
+use mathlib.Core.Path.{ap, ◌∙◌}
 use Rattle.scanning.proofs.sets.next_member.Goals as goal
 
 pub loop-i-preserved : goal.loop-i-preserved

@@ -1,10 +1,7 @@
-use Rattle.sending.proofs.Members.{rises-none, rises-start, rises-on, rises-off, rises-end}
 use Rattle.sending.specs.Members.{rises_after, rises_all}
 use lib.ListN.{length, drop}
 use Prim.Native.Nat.{◌-◌, ◌≤◌}
-use native.Mathlib.Omega.{arith}
 use mathlib.Core.Path.{◌≡◌}
-use borrow.Author.Rules.{rules}
 use Rattle.scanning.proofs.sets.rises.Given as goal
 
 abbrev pub invariant-loop-i : goal.invariant-loop-i

@@ -1,7 +1,6 @@
 use mathlib.Core.Path.{ap}
 use Rattle.records.specs.declared.Broadcast.{Broadcast}
 use Rattle.tables.proofs.BroadcastRows.{row}
-use borrow.Author.Rules.{rules}
 use Rattle.tables.proofs.broadcast_rows.deadline.Goals as goal
 
 pub returns : goal.returns

@@ -2,7 +2,6 @@ use Rattle.tables.specs.Layouts.{broadcast_layout}
 use Rattle.tables.proofs.BroadcastRows.{lawful}
 use Rattle.rows.proofs.Held.{held-searched}
 use Rattle.rows.proofs.Answers.{sought}
-use borrow.Author.Rules.{rules}
 use Rattle.tables.proofs.broadcast_rows.find.Goals as goal
 
 pub seek-requires : goal.seek-requires

@@ -5,7 +5,6 @@ use lib.ListN.{get_or}
 use Rattle.tables.specs.declared.broadcast_rows.BroadcastHead.{BroadcastHead}
 use Rattle.tables.specs.Layouts.{broadcast_from, broadcast_head}
 use Rattle.tables.proofs.BroadcastRows.{row}
-use borrow.Author.Rules.{rules}
 use Rattle.tables.proofs.broadcast_rows.head.Goals as goal
 
 pub returns : goal.returns

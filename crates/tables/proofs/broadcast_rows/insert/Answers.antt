@@ -1,8 +1,7 @@
 use Rattle.tables.specs.Layouts.{broadcast_layout}
 use Rattle.tables.proofs.BroadcastRows.{lawful}
 use Rattle.rows.proofs.Held.{held-searched}
-use Rattle.rows.proofs.Answers.{roomy, over-lt, new-lt, shut-entered, over-entered, new-entered}
-use borrow.Author.Rules.{rules}
+use Rattle.rows.proofs.Answers.{over-lt, new-lt, shut-entered, over-entered, new-entered}
 use Rattle.tables.proofs.broadcast_rows.insert.Goals as goal
 
 pub put-requires : goal.put-requires

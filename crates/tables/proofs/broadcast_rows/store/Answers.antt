@@ -1,6 +1,5 @@
 use Rattle.tables.proofs.BroadcastRows.{lawful}
 use Rattle.rows.proofs.Held.{holds-put}
-use borrow.Author.Rules.{rules}
 use Rattle.tables.proofs.broadcast_rows.store.Goals as goal
 
 pub returns : goal.returns

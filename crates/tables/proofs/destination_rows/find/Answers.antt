@@ -2,7 +2,6 @@ use Rattle.tables.specs.Layouts.{destination_layout}
 use Rattle.tables.proofs.DestinationRows.{lawful}
 use Rattle.rows.proofs.Held.{held-searched}
 use Rattle.rows.proofs.Answers.{sought}
-use borrow.Author.Rules.{rules}
 use Rattle.tables.proofs.destination_rows.find.Goals as goal
 
 pub seek-requires : goal.seek-requires

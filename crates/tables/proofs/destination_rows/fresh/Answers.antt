@@ -3,7 +3,6 @@ use Rattle.rows.specs.Tables.{words_for}
 use Rattle.tables.specs.Layouts.{destination_layout}
 use Rattle.tables.proofs.DestinationRows.{lawful}
 use Rattle.rows.proofs.Held.{holds-fresh}
-use borrow.Author.Rules.{rules}
 use Rattle.tables.proofs.destination_rows.fresh.Goals as goal
 
 pub returns : goal.returns

@@ -1,5 +1,4 @@
 use Rattle.tables.proofs.DestinationRows.{row}
-use borrow.Author.Rules.{rules}
 use Rattle.tables.proofs.destination_rows.load.Goals as goal
 
 pub returns : goal.returns

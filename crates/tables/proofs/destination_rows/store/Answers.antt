@@ -1,6 +1,5 @@
 use Rattle.tables.proofs.DestinationRows.{lawful}
 use Rattle.rows.proofs.Held.{holds-put}
-use borrow.Author.Rules.{rules}
 use Rattle.tables.proofs.destination_rows.store.Goals as goal
 
 pub returns : goal.returns

@@ -1,7 +1,6 @@
 use mathlib.Core.Path.{ap, ◌∙◌}
 use Rattle.records.specs.declared.Unicast.{Unicast}
 use Rattle.tables.proofs.UnicastRows.{row}
-use borrow.Author.Rules.{rules}
 use Rattle.tables.proofs.unicast_rows.address.Goals as goal
 
 pub returns : goal.returns

@@ -3,7 +3,6 @@ use Rattle.rows.specs.Tables.{words_for}
 use Rattle.tables.specs.Layouts.{unicast_layout}
 use Rattle.tables.proofs.UnicastRows.{lawful}
 use Rattle.rows.proofs.Held.{holds-fresh}
-use borrow.Author.Rules.{rules}
 use Rattle.tables.proofs.unicast_rows.fresh.Goals as goal
 
 pub returns : goal.returns

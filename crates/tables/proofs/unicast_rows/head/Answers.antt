@@ -4,7 +4,6 @@ use lib.ListN.{get_or}
 use Rattle.tables.specs.declared.unicast_rows.UnicastHead.{UnicastHead}
 use Rattle.tables.specs.Layouts.{unicast_from, unicast_head}
 use Rattle.tables.proofs.UnicastRows.{row}
-use borrow.Author.Rules.{rules}
 use Rattle.tables.proofs.unicast_rows.head.Goals as goal
 
 pub returns : goal.returns

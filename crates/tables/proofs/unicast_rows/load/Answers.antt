@@ -1,6 +1,5 @@
 use mathlib.Core.Path.{◌∙◌}
 use Rattle.tables.proofs.UnicastRows.{row}
-use borrow.Author.Rules.{rules}
 use Rattle.tables.proofs.unicast_rows.load.Goals as goal
 
 pub returns : goal.returns

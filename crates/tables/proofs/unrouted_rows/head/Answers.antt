@@ -1,7 +1,6 @@
 use mathlib.Core.Path.{ap}
 use Rattle.tables.specs.Layouts.{unrouted_head}
 use Rattle.tables.proofs.UnroutedRows.{row}
-use borrow.Author.Rules.{rules}
 use Rattle.tables.proofs.unrouted_rows.head.Goals as goal
 
 pub returns : goal.returns

@@ -2,7 +2,6 @@ use Rattle.tables.specs.Layouts.{unrouted_layout}
 use Rattle.tables.proofs.UnroutedRows.{lawful}
 use Rattle.rows.proofs.Held.{held-searched}
 use Rattle.rows.proofs.Answers.{left}
-use borrow.Author.Rules.{rules}
 use Rattle.tables.proofs.unrouted_rows.remove.Goals as goal
 
 pub leave-requires : goal.leave-requires

@@ -1,7 +1,6 @@
 use Rattle.tables.specs.Layouts.{unrouted_layout}
 use Rattle.tables.proofs.UnroutedRows.{lawful}
 use Rattle.rows.proofs.Held.{holds-removed}
-use borrow.Author.Rules.{rules}
 use Rattle.tables.proofs.unrouted_rows.remove_at.Goals as goal
 
 pub returns : goal.returns

@@ -1,10 +1,8 @@
-use Rattle.sending.proofs.Turns.{ack-same}
 use Rattle.actions.proofs.Sweeps.{turn-found, turn-missed}
 use Rattle.sending.specs.Rules.{keyed, ack_turn}
 use Rattle.scanning.proofs.Scans.{scan-some, scan-none, first-room, first-lt}
 use Rattle.unicasts.proofs.Tables.{played-as}
 use mathlib.Core.Path.{ap, ◌∙◌}
-use borrow.Author.Rules.{rules}
 use Rattle.unicasts.proofs.calls.ack.Goals as goal
 
 pub load-u-requires : goal.load-u-requires

@@ -6,7 +6,6 @@ use Rattle.scanning.proofs.Scans.{row_at, find-here, find-nowhere, first-lt, fir
 use Rattle.unicasts.proofs.Tables.{played-as, refused, done}
 use Rattle.records.specs.Records.{unicast_entry}
 use mathlib.Core.Path.{refl, ap, ◌∙◌}
-use borrow.Author.Rules.{rules}
 use Rattle.unicasts.proofs.calls.cancel.Goals as goal
 
 pub load-u-requires : goal.load-u-requires

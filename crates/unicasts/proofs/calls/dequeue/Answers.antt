@@ -7,7 +7,6 @@ use Rattle.unicasts.proofs.Tables.{stands, lent_is}
 use Rattle.rows.specs.Moves.{has_id}
 use Rattle.records.specs.Records.{unicast_entry}
 use mathlib.Core.Path.{ap, sym, ◌∙◌}
-use borrow.Author.Rules.{rules}
 use Rattle.unicasts.proofs.calls.dequeue.Goals as goal
 
 pub load-u-requires : goal.load-u-requires

@@ -3,7 +3,6 @@ use Rattle.scanning.proofs.Scans.{scan-some, scan-none, first-room, first-lt, an
 use Rattle.unicasts.proofs.Tables.{stands}
 use Rattle.records.specs.Records.{unicast_entry}
 use mathlib.Core.Path.{ap, ◌∙◌}
-use borrow.Author.Rules.{rules}
 use Rattle.unicasts.proofs.calls.poll.Goals as goal
 
 pub load-u-requires : goal.load-u-requires

@@ -2,12 +2,10 @@ use Rattle.sending.specs.Rules.{report_turn}
 use Rattle.sending.specs.Types.{NoSuchSend, NotInTheRadio, OtherFrame}
 use Rattle.rows.specs.Moves.{has_id}
 use Rattle.sending.proofs.Bars.{sending-row, report-frame, report-other, report-idle}
-use Rattle.sending.proofs.Turns.{report-same}
 use Rattle.scanning.proofs.Scans.{row_at, find-here, find-nowhere, first-lt, first-room, first-row, first-none}
 use Rattle.unicasts.proofs.Tables.{played-as, refused, done}
 use Rattle.records.specs.Records.{unicast_entry}
 use mathlib.Core.Path.{refl, ap, ◌∙◌}
-use borrow.Author.Rules.{rules}
 use Rattle.unicasts.proofs.calls.report.Goals as goal
 
 pub load-u-requires : goal.load-u-requires

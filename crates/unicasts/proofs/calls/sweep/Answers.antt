@@ -1,14 +1,10 @@
-use Rattle.sending.specs.Rules.{with_stage, sweep_turn}
+use Rattle.sending.specs.Rules.{with_stage}
 use Rattle.sending.specs.Types.{None16, Failure, Queued}
 use Rattle.sending.specs.declared.Due.TheVariants.{Leave, Requeue, Finish}
-use Rattle.actions.proofs.Sweeps.{Sweeping, sweep-start, sweep-quiet, sweep-stays, sweep-goes, sweep-end}
-use Rattle.tables.specs.Layouts.{unicast_table}
+use Rattle.actions.proofs.Sweeps.{sweep-quiet, sweep-stays, sweep-goes, sweep-end}
 use Rattle.scanning.proofs.Scans.{row_at}
-use Rattle.records.specs.Records.{unicast_entry}
 use Rattle.sending.proofs.Turns.{due-is}
-use Prim.Native.Nat.{◌-◌}
 use native.Mathlib.Omega.{arith}
-use borrow.Author.Rules.{rules}
 use Rattle.unicasts.proofs.calls.sweep.Goals as goal
 
 pub loop-i-preserved-in-Leave : goal.loop-i-preserved-in-Leave

@@ -1,9 +1,7 @@
 use mathlib.Core.Path.{sym, ◌∙◌}
 use Rattle.actions.proofs.Sweeps.{swept_none}
 use Rattle.sending.specs.Rules.{stirs}
-use Rattle.sending.proofs.Turns.{sweep-tick, tick-rests}
-use Rattle.unicasts.proofs.Tables.{swept_as}
-use borrow.Author.Rules.{rules}
+use Rattle.sending.proofs.Turns.{tick-rests}
 use Rattle.unicasts.proofs.calls.tick.Goals as goal
 
 pub returns : goal.returns
