@@ -1,17 +1,16 @@
 -- Answers that fit before the reserved end, and answers that do not. Assumes nothing.
 use Prim.Native.Nat.{ℕ, ◌+◌, ◌-◌, ◌≤◌, ◌<◌}
 use native.Mathlib.Omega.{arith}
-use mathlib.Core.Path.{◌≡◌, refl, sym, ap, subst, ◌∙◌}
+use mathlib.Core.Path.{◌≡◌, sym, ap, ◌∙◌}
 use mathlib.Core.Bool.{true, false}
 use mathlib.Core.List.{List, [], ◌∷◌, ◌++◌}
 use lib.ListN.{length, length-append}
 use lib.Seq.{sets}
-use lib.Dec.{ltb}
 use borrow.Author.Tests.{lt-ltb, le-ltb}
 use Rattle.records.specs.Pick.{pick}
 use Rattle.answers.specs.Bytes.{Written}
 use Rattle.answers.specs.Items.{items_bytes}
-use Rattle.answers.proofs.Lists.{items-append, items-one}
+use Rattle.answers.proofs.Lists.{items-append}
 use Rattle.listings.specs.Listings.{wake_items}
 use Rattle.exchange.specs.Types.{Opt64, None64, Some64, Item, Done}
 use Rattle.exchange.specs.Answering.{Answering, overfull}

@@ -1,7 +1,6 @@
 -- What a turn makes of the world: a call of the tables, an abandon, a pair, the lists; and that the world stays sound. Assumes nothing.
-use Prim.Native.Nat.{ℕ, ◌+◌, ◌≤◌}
+use Prim.Native.Nat.{ℕ, ◌≤◌}
 use native.Mathlib.Omega.{arith}
-use native.Mathlib.Nat.{zero-add}
 use mathlib.Core.Path.{◌≡◌, refl, sym, ap, ap₂, subst, ◌∙◌}
 use mathlib.Core.Bool.{Bool, true, false}
 use mathlib.Core.List.{List, [], ◌∷◌, ◌++◌, map, append_assoc}
@@ -14,10 +13,10 @@ use Rattle.rows.specs.Tables.{Holds}
 use Rattle.rows.specs.Rows.{flat}
 use Rattle.actions.specs.Told.{action_words}
 use Rattle.tables.specs.Layouts.{unicast_table, unrouted_table, destination_table, broadcast_table}
-use Rattle.model.specs.Model.{Model, Effect, lent_model, SoundTables, Does}
+use Rattle.model.specs.Model.{Model, lent_model, SoundTables, Does}
 use Rattle.model.specs.Calls.{abandoned, emptied}
 use Rattle.model.specs.Sound.{SoundModel}
-use Rattle.model.specs.Steps.{Call, EnqueueUnicast, EnqueueCopy, EnqueueUnrouted, EnqueueBroadcast, Dequeue, Transmitted, Poll, AckReceived, RetryDiscovery, FailUnrouted, RouteUnicasts, Delivered, DropIndirect, Cancel, Tick, Abandon, HasUnrouted, HasAwaiting, members_of, acts, step_of}
+use Rattle.model.specs.Steps.{EnqueueUnicast, EnqueueCopy, EnqueueUnrouted, EnqueueBroadcast, Dequeue, Transmitted, Poll, AckReceived, RetryDiscovery, FailUnrouted, RouteUnicasts, Delivered, DropIndirect, Cancel, Tick, Abandon, HasUnrouted, HasAwaiting, members_of, acts}
 use Rattle.model.proofs.Bounds.{few-actions}
 use Rattle.model.proofs.Sounds.{step-sound}
 use Rattle.doing.specs.Parts.{AbandonedAll}

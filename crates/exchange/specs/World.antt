@@ -1,5 +1,5 @@
 -- What one event of a trace does: to the send tables, the settings and the address map, and what is answered.
-use Rattle.std.specs.Prelude.{ℕ, Bool, true, false, ◌||◌, List, [], ◌∷◌, ◌++◌, map, ltb, eqb, length, take}
+use Rattle.std.specs.Prelude.{ℕ, Bool, false, ◌||◌, List, [], ◌∷◌, ◌++◌, map, ltb, eqb, length, take}
 use Rattle.records.specs.Pick.{pick}
 use Rattle.records.specs.Numbers.{default_settings}
 use Rattle.model.specs.Model.{Model, fresh_of, lent_model}

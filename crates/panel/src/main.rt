@@ -100,7 +100,13 @@ fn enqueue(rt: &impl Print, g: Gateway, told: &mut [u64; 560], clock: u64) -> io
 }
 
 // A device polls under its extended address.
-fn poll(rt: &impl Print, g: Gateway, told: &mut [u64; 560], device: u64, clock: u64) -> io::Result<Gateway>
+fn poll(
+    rt: &impl Print,
+    g: Gateway,
+    told: &mut [u64; 560],
+    device: u64,
+    clock: u64,
+) -> io::Result<Gateway>
     requires { Sound g.sends }
     ensures { IfOk result (λ h. Sound h.sends) }
 {
@@ -181,7 +187,10 @@ fn show_state(rt: &impl Print, s: Sends, clock: u64) -> io::Result<()>
 {
     words::call(rt, clock, b"has_unicast_awaiting_poll of ")?;
     words::address(rt, Address::Extended(PANEL))?;
-    words::replied(rt, sends::asks::has_unicast_awaiting_poll(s, Address::Extended(PANEL)))?;
+    words::replied(
+        rt,
+        sends::asks::has_unicast_awaiting_poll(s, Address::Extended(PANEL)),
+    )?;
     words::call(rt, clock, b"next_wake")?;
     words::wake(rt, sends::asks::next_wake(s))
 }

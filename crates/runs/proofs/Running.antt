@@ -1,24 +1,21 @@
 -- The run's invariant: what is still to be written, from here, makes the whole answer; and what each turn and each end make of it. Assumes nothing.
-use Prim.Native.Nat.{ℕ, zero, suc, ◌+◌, ◌-◌, ◌≤◌, ◌<◌}
+use Prim.Native.Nat.{ℕ, suc, ◌+◌, ◌-◌, ◌≤◌, ◌<◌}
 use mathlib.Core.Path.{◌≡◌, refl, sym, ap, ap₂, subst, ◌∙◌}
-use mathlib.Core.List.{List, [], ◌∷◌, ◌++◌}
+use mathlib.Core.List.{List, ◌++◌}
 use mathlib.Core.Bool.{true, false}
 use native.Mathlib.Omega.{arith}
 use native.Mathlib.Nat.{add_assoc, zero-add}
-use lib.ListN.{length, take, drop, length-append}
+use lib.ListN.{length, length-append}
 use lib.Seq.{sets, sets-eq, length-sets}
-use lib.Dec.{ltb}
 use borrow.Author.Tests.{lt-ltb, le-ltb, ltb-false}
-use Rattle.records.specs.Pick.{pick}
 use Rattle.rows.proofs.Sets.{sets-append}
 use Rattle.framing.specs.Reader.{stands_at}
-use Rattle.framing.specs.declared.Standing.{Standing}
 use Rattle.framing.specs.declared.Standing.TheVariants.{Record, Unknown, Cut, End}
 use Rattle.framing.proofs.Reading.{stood}
 use Rattle.answers.specs.Bytes.{Written}
 use Rattle.answers.specs.Items.{items_bytes, end_bytes}
 use Rattle.exchange.specs.World.{World, Step, fresh_world}
-use Rattle.exchange.specs.Answering.{Answering, overfull}
+use Rattle.exchange.specs.Answering.{overfull}
 use Rattle.runs.specs.Run.{step_by, body_in, answer_of, turn_of, run_from, run_bytes, Ran}
 
 -- s the trace, d₀ the output as it came, d the output now, w the world, at the place in the trace, o the bytes written

@@ -1,5 +1,5 @@
 -- What a run of a trace writes: for each record the answers to its event, and last the end.
-use Rattle.std.specs.Prelude.{ℕ, zero, suc, ◌+◌, ◌-◌, ◌≡◌, List, [], ◌∷◌, ◌++◌, length, take, drop, ltb}
+use Rattle.std.specs.Prelude.{ℕ, zero, suc, ◌+◌, ◌-◌, ◌≡◌, List, [], ◌++◌, length, take, drop, ltb}
 use Rattle.records.specs.Pick.{pick}
 use Rattle.framing.specs.Reader.{stands_at}
 use Rattle.events.specs.Events.{event_of}

@@ -1,10 +1,10 @@
 -- The run's invariant over its own arrays: they hold the world that it has come to. Assumes nothing.
-use Prim.Native.Nat.{ℕ, ◌+◌, ◌-◌, ◌≤◌, ◌<◌}
+use Prim.Native.Nat.{ℕ, ◌+◌, ◌≤◌}
 use native.Mathlib.Omega.{arith}
-use mathlib.Core.Path.{◌≡◌, refl, sym, ap, ap₂, subst, ◌∙◌}
+use mathlib.Core.Path.{◌≡◌, refl, sym, ap, subst, ◌∙◌}
 use mathlib.Core.Bool.{Bool, true, false}
 use mathlib.Core.List.{List, []}
-use lib.ListN.{length, take}
+use lib.ListN.{length}
 use lib.Seq.{sets, length-sets}
 use Rattle.records.specs.Pick.{pick}
 use Rattle.records.specs.Numbers.{default_settings}
@@ -20,7 +20,7 @@ use Rattle.answers.specs.Bytes.{Written}
 use Rattle.answers.specs.Items.{items_bytes, end_bytes}
 use Rattle.answers.specs.declared.Item.{Item}
 use Rattle.exchange.specs.declared.Left.{Left}
-use Rattle.exchange.specs.World.{World, Step, fresh_world, world_of}
+use Rattle.exchange.specs.World.{Step, fresh_world, world_of}
 use Rattle.exchange.specs.Answering.{Answering, overfull}
 use Rattle.exchange.specs.Turns.{Ready, Turned}
 use Rattle.exchange.proofs.Worlds.{holds-model, holds-ready}

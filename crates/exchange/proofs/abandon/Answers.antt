@@ -1,17 +1,13 @@
 -- The tables are emptied, and the list is answered if it fits.
-use Prim.Native.Nat.{ℕ, ◌+◌, ◌*◌, ◌≤◌}
-use native.Mathlib.Omega.{arith}
-use mathlib.Core.Path.{◌≡◌, refl}
-use lib.ListN.{length}
+use mathlib.Core.Path.{refl}
 use mathlib.Core.List.{map}
 use Rattle.model.specs.Model.{Model, lent_model}
 use Rattle.model.specs.Calls.{abandoned}
 use Rattle.listings.specs.Listings.{abandoned_items}
 use Rattle.exchange.specs.World.{abandonment}
 use Rattle.exchange.proofs.Answers.{answering-as, done-same}
-use Rattle.exchange.proofs.Listings.{listed-long, abandoned-bytes}
+use Rattle.exchange.proofs.Listings.{abandoned-bytes}
 use Rattle.exchange.proofs.Worlds.{abandoned-few, turned-abandon}
-use borrow.Author.Rules.{rules}
 use Rattle.exchange.proofs.abandon.Goals as goal
 
 pub returns : goal.returns

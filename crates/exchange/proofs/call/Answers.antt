@@ -1,9 +1,8 @@
 -- The call, and its answer if it fits.
 use Rattle.events.specs.Events.{event_of}
 use Rattle.events.specs.Routes.{results_in}
-use Rattle.exchange.proofs.Arms.{own-plain, event-call}
+use Rattle.exchange.proofs.Arms.{event-call}
 use Rattle.exchange.proofs.Worlds.{call-few, turned-call}
-use borrow.Author.Rules.{rules}
 use Rattle.exchange.proofs.call.Goals as goal
 
 pub returns : goal.returns

@@ -1,6 +1,5 @@
 -- Barred, or put; then the answer.
-use Rattle.exchange.proofs.Worlds.{turned-barred, turned_pair}
-use borrow.Author.Rules.{rules}
+use Rattle.exchange.proofs.Worlds.{turned_pair}
 use Rattle.exchange.proofs.pair.Goals as goal
 
 pub returns-in-Pairs : goal.returns-in-Pairs

@@ -14,7 +14,6 @@ use Rattle.exchange.specs.World.{World, world_of}
 use Rattle.exchange.proofs.Arms.{own-last}
 use Rattle.exchange.proofs.Answers.{answering-as}
 use Rattle.exchange.proofs.Worlds.{turned-still, lists-are}
-use borrow.Author.Rules.{rules}
 use Rattle.exchange.proofs.serve.Goals as goal
 
 pub settings_in-x-requires : goal.settings_in-x-requires

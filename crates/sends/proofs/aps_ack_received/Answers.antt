@@ -1,6 +1,5 @@
 use Rattle.model.proofs.Sounds.{ack-sound}
 use Rattle.sends.proofs.Values.{is-answered, leaves-sound}
-use borrow.Author.Rules.{rules}
 use Rattle.sends.proofs.aps_ack_received.Goals as goal
 
 pub returns-clause-value : goal.returns-clause-value

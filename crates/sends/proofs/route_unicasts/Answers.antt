@@ -1,6 +1,5 @@
 use Rattle.model.proofs.Sounds.{route-sound}
 use Rattle.sends.proofs.Values.{is-answered, leaves-sound}
-use borrow.Author.Rules.{rules}
 use Rattle.sends.proofs.route_unicasts.Goals as goal
 
 pub returns-clause-value : goal.returns-clause-value

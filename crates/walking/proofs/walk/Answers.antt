@@ -1,19 +1,10 @@
-use Prim.Native.Nat.{ℕ, ◌+◌, ◌-◌, ◌≤◌, ◌<◌}
-use native.Mathlib.Omega.{arith}
-use mathlib.Core.Path.{◌≡◌, refl, sym, ap, ◌∙◌}
-use mathlib.Core.List.{List}
-use lib.ListN.{length}
-use Rattle.framing.specs.Reader.{stands_at}
+use mathlib.Core.Path.{refl, sym, ap, ◌∙◌}
 use Rattle.events.specs.Events.{event_of}
-use Rattle.events.specs.Routes.{results_in}
-use Rattle.framing.specs.declared.Standing.TheVariants.{Record}
-use Rattle.framing.proofs.Reading.{Stood, stood, body-long}
-use Rattle.exchange.specs.World.{World, step_on, world_of}
+use Rattle.exchange.specs.World.{World, world_of}
 use Rattle.exchange.proofs.Somes.{items-some}
-use Rattle.runs.specs.Run.{step_by, body_in}
+use Rattle.runs.specs.Run.{step_by}
 use Rattle.runs.proofs.Running.{at-end, at-unknown, at_cut}
-use Rattle.walking.proofs.Walking.{Walking, begins, six-left, answering-long, walk-full, walk-on}
-use borrow.Author.Rules.{rules}
+use Rattle.walking.proofs.Walking.{begins, walk-full, walk-on}
 use Rattle.walking.proofs.walk.Goals as goal
 
 pub loop-out-init : goal.loop-out-init

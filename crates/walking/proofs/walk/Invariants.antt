@@ -1,20 +1,7 @@
 -- The records in turn: three ways to an end, the fourth where answers do not fit, and on; the last two for either sort of kind.
-use Prim.Native.Nat.{ℕ, ◌+◌, ◌-◌, ◌≤◌, ◌<◌}
-use native.Mathlib.Omega.{arith}
-use mathlib.Core.Path.{◌≡◌, refl, sym, ap, ◌∙◌}
-use mathlib.Core.List.{List}
+use Prim.Native.Nat.{◌-◌}
 use lib.ListN.{length}
-use Rattle.framing.specs.Reader.{stands_at}
-use Rattle.events.specs.Events.{event_of}
-use Rattle.events.specs.Routes.{results_in}
-use Rattle.framing.specs.declared.Standing.TheVariants.{Record}
-use Rattle.framing.proofs.Reading.{Stood, stood, body-long}
-use Rattle.exchange.specs.World.{World, step_on, world_of}
-use Rattle.exchange.proofs.Somes.{items-some}
-use Rattle.runs.specs.Run.{step_by, body_in}
-use Rattle.runs.proofs.Running.{at-end, at-unknown, at_cut}
-use Rattle.walking.proofs.Walking.{Walking, begins, six-left, answering-long, walk-full, walk-on}
-use borrow.Author.Rules.{rules}
+use Rattle.walking.proofs.Walking.{Walking}
 use Rattle.walking.proofs.walk.Given as goal
 
 abbrev pub invariant-loop-out : goal.invariant-loop-out

@@ -5,7 +5,6 @@ use Rattle.listings.specs.Listings.{abandoned_items}
 use Rattle.listings.proofs.Puttings.{abandoned-long}
 use Rattle.exchange.specs.Types.{Done}
 use Rattle.exchange.proofs.Answers.{no_room, all_fit, done-long}
-use borrow.Author.Rules.{rules}
 use Rattle.exchange.proofs.answering.answer_abandoned.Goals as goal
 
 pub returns-then-out-at : goal.returns-then-out-at

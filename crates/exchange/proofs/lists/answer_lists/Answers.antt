@@ -2,11 +2,7 @@
 use native.Mathlib.Omega.{arith}
 use mathlib.Core.Path.{refl}
 use lib.ListN.{take}
-use Rattle.rows.specs.Tables.{live}
-use Rattle.tables.specs.Layouts.{unicast_table, destination_table, broadcast_table}
-use Rattle.exchange.specs.Gathered.{listed_items}
-use Rattle.exchange.proofs.Listings.{Saying, gathered-says, says_nothing, says_all}
-use borrow.Author.Rules.{rules}
+use Rattle.exchange.proofs.Listings.{gathered-says, says_nothing, says_all}
 use Rattle.exchange.proofs.lists.answer_lists.Goals as goal
 
 pub gathered_length-long-requires : goal.gathered_length-long-requires

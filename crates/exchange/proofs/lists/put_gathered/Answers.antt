@@ -1,14 +1,10 @@
 -- List after list, then 129: each begins where the one before it ends.
-use Prim.Native.Nat.{◌+◌, ◌≤◌}
 use native.Mathlib.Omega.{arith}
 use mathlib.Core.List.{[], ◌∷◌}
-use lib.ListN.{length}
-use Rattle.answers.specs.Items.{items_bytes}
 use Rattle.answers.proofs.Lists.{written-items, written-more}
 use Rattle.listings.specs.Listings.{short_items, long_items, destination_items, key_items}
 use Rattle.exchange.specs.Types.{Done}
 use Rattle.exchange.proofs.Listings.{first_short, rest-fits, from_keys, from_shorts, from_longs}
-use borrow.Author.Rules.{rules}
 use Rattle.exchange.proofs.lists.put_gathered.Goals as goal
 
 -- In each answer d, k and s say that what follows fits behind the destinations, the keys and the short set.

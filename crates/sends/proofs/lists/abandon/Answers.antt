@@ -1,6 +1,4 @@
-use Rattle.model.proofs.Sounds.{abandon-sound}
-use Rattle.sends.proofs.Values.{is-emptied, left-sound}
-use borrow.Author.Rules.{rules}
+use Rattle.sends.proofs.Values.{is-emptied}
 use Rattle.sends.proofs.lists.abandon.Goals as goal
 
 pub returns-clause-value : goal.returns-clause-value
