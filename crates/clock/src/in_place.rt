@@ -1,5 +1,4 @@
-// The clock that its holder lends by `&mut`. The prover walks no reference to a struct, so `advance_lent` and `advance_numbers`
-// are proved by hand and only pass on what the functions by value do; who calls `advance_numbers` needs no proof by hand.
+// The clock that its holder lends by `&mut`. `advance_lent` and `advance_numbers` only pass on what the functions by value do.
 ghost use Rattle.std.specs.Prelude.{◌≡◌};
 ghost use Rattle.clock.specs.Clock.{advance_of};
 ghost use Rattle.clock.specs.Lent.{clock_of, told_of, numbers_from, numbers_of, clock_at};

@@ -1,6 +1,5 @@
-// A reader holds a lent trace and a place in it. The prover walks no struct that holds a reference, so each function over one is
-// proved by hand and only passes on what framing::reader does. `standing_at` and `body_at` make a reader of plain parameters and ask
-// it, by hand too; who calls them, as `count_records` does, needs no walk.
+// A reader holds a lent trace and a place in it; each function over one only passes on what framing::reader does. `standing_at` and
+// `body_at` make a reader of plain parameters and ask it.
 ghost use Rattle.std.specs.Prelude.{◌≡◌, ◌-◌, ◌≤◌, length, take, drop};
 ghost use Rattle.framing.specs.Reader.{stands_at};
 ghost use Rattle.trace.specs.Reading.{records_in};

@@ -1,4 +1,4 @@
-// The trace run for a caller through C: include/sends_run.h.
+// The trace run for a caller through C, as bindings/c/sends_run.h declares it.
 #![tactic(auto)]
 
 ghost use Rattle.runs.specs.Run.{Ran};
