@@ -1,4 +1,5 @@
-// What the calls answer and what the driver must do, in plain words on standard output.
+// What the calls answer and what the driver must do, in plain words on standard output. Each function, and those of main.rt that call
+// it, stops at the first write that fails and answers that error, and no other; what was written before it stands.
 use model::{Answer, Transmit};
 use records::{Action, Address, Entry, Opt16, Opt64, Refusal, SendFailure, TxResult, Verdict};
 use std::io;

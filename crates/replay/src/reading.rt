@@ -1,4 +1,4 @@
-// The input, read head by head and case by case.
+// The input, read head by head and case by case. Each function stops at the first read that fails and answers that error, and no other.
 ghost use Rattle.std.specs.Prelude.{◌≡◌, ◌≤◌, ◌<◌, length, IfOk};
 ghost use Rattle.replay.specs.Counting.{Few};
 ghost use Rattle.replay.specs.Reading.{FewOn};
