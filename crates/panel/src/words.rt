@@ -58,8 +58,7 @@ fn flight(rt: &impl Print, id: u32, frame: u32, how: Transmit) -> io::Result<()>
 
 fn yes_or_no(rt: &impl Print, b: bool) -> io::Result<()> {
     if b {
-        text(rt, b"yes")?;
-        return Ok(());
+        return text(rt, b"yes");
     }
     text(rt, b"no")
 }
@@ -83,8 +82,7 @@ pub(crate) fn said(rt: &impl Print, a: Answer) -> io::Result<()> {
 // How many actions follow, to end the line.
 pub(crate) fn count(rt: &impl Print, n: usize) -> io::Result<()> {
     if n == 0 {
-        text(rt, b"; nothing to tell\n")?;
-        return Ok(());
+        return text(rt, b"; nothing to tell\n");
     }
     text(rt, b"; actions: ")?;
     number(rt, n as u64)?;
@@ -188,8 +186,7 @@ pub(crate) fn wake(rt: &impl Print, t: Opt64) -> io::Result<()> {
 
 pub(crate) fn light(rt: &impl Print, lit: bool) -> io::Result<()> {
     if lit {
-        text(rt, b"The green tick lights.\n")?;
-        return Ok(());
+        return text(rt, b"The green tick lights.\n");
     }
     text(rt, b"The green tick does not light.\n")
 }
