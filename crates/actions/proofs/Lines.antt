@@ -1,4 +1,5 @@
 -- Actions told one after the other, and each says itself again. What the crates above may cite of this one. Assumes nothing.
+use Rattle.std.specs.Prelude.{Option}
 use Prim.Native.Nat.{ℕ, ◌+◌, ◌*◌, ◌/◌, ◌%◌, ◌<◌}
 use native.Mathlib.Nat.{mod-eq_of_lt, add-mul, add-zero, add_assoc}
 use native.Mathlib.Omega.{arith}
@@ -7,7 +8,6 @@ use mathlib.Core.List.{List, [], ◌∷◌, ◌++◌}
 use lib.ListN.{length, length-append}
 use lib.Seq.{sets}
 use Rattle.records.specs.Numbers.{verdict_number, verdict_address, verdict_code}
-use Rattle.records.specs.declared.Opt16.{Opt16}
 use Rattle.records.specs.declared.SendFailure.TheVariants.{HandoffTimeout, ApsAckTimeout, IndirectExpired, RouteDiscoveryTimeout, BroadcastQuorumNotReached, Cancelled}
 use Rattle.records.specs.declared.Verdict.{Verdict}
 use Rattle.records.specs.declared.Verdict.TheVariants.{Success, Failure, Code}
@@ -68,7 +68,7 @@ module _ (v a c h : ℕ) (hv : v < 8) (ha : a < 4) (hc : c < 65536) (hh : h < 13
   tags4 : tags / 4194304 % 131072 ≡ h
   tags4 = omega arith
 
-pub settled-exact : (e : Entry) (v : Verdict) (hop : Opt16) {t ar : ℕ} → e.id < 4294967296 → e.waiter < 4294967296 → e.frame < 4294967296
+pub settled-exact : (e : Entry) (v : Verdict) (hop : Option ℕ) {t ar : ℕ} → e.id < 4294967296 → e.waiter < 4294967296 → e.frame < 4294967296
     → CodedTags v hop t → CodedAddress (verdict_address v) ar → Exact (Settled e v hop)
 settled-exact e v hop hi hw hf t a =
     let n : ℕ = verdict_number v in

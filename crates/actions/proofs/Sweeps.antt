@@ -1,14 +1,13 @@
 -- How code gives every record its turn: place by place, a record that stays is stored or left, a settled one is taken out and told. And how it gives the first
 -- with a test its turn, and that a sweep in which every record rests does nothing. Over any kind of table whose records have an entry. Assumes nothing.
+use Rattle.std.specs.Prelude.{Option, None, Some}
 use Prim.Native.Nat.{ℕ, ◌+◌, ◌-◌, ◌*◌, ◌≤◌, ◌<◌}
 use native.Mathlib.Omega.{arith}
 use mathlib.Core.Path.{◌≡◌, refl, sym, ap, ◌∙◌}
 use mathlib.Core.Bool.{Bool, true, false}
 use mathlib.Core.List.{List, [], ◌∷◌, ◌++◌, append_assoc}
-use mathlib.Core.Option.{none, some}
 use lib.ListN.{length, get_or, set}
 use lib.Seq.{set-get_or}
-use Rattle.records.specs.declared.Opt16.{Opt16}
 use Rattle.records.specs.declared.Verdict.{Verdict}
 use Rattle.records.specs.declared.Entry.{Entry}
 use Rattle.records.specs.declared.Action.{Action}
@@ -82,7 +81,7 @@ module _ {A : Type 0} {t : Table A} {entry : A → Entry} {f : A → Turn A} {ws
         sweep-stays (get_or (rows_of t ws) i t.blank) l e (record { is = s.held.words ∙ ap (words_for t) (sym same); live-is = sym same; held = s.held })
 
     -- the record is settled
-    pub sweep-goes : {ws' : List ℕ} {buf' : List ℕ} {m' : ℕ} (again : Bool) (v : Verdict) (hop : Opt16) → i < n
+    pub sweep-goes : {ws' : List ℕ} {buf' : List ℕ} {m' : ℕ} (again : Bool) (v : Verdict) (hop : Option ℕ) → i < n
         → f (get_or (rows_of t ws) i t.blank) ≡ Settles again v hop → Holds t ws' (n - 1) (remove_at i (live t ws n))
         → Told m (told {A = A} (entry (get_or (rows_of t ws) i t.blank)) (Settles again v hop)) buf buf' m'
         → Sweeping t entry f ws₀ n₀ buf₀ m₀ ws' (n - 1) buf' m' i
@@ -153,7 +152,7 @@ swept_none {A} {t} {entry} {f} q rests {ws} {n} {buf} {m} h e =
 
 module _ {A : Type 0} {t : Table A} {entry : A → Entry} {ws : List ℕ} {n : ℕ} (h : Held t ws n) (q : A → Bool) (f : A → Turn A) where
   -- it was found at place i, and had its turn there
-  pub turn-found : {buf ws' buf' : List ℕ} {m n' m' : ℕ} (i : ℕ) → first_at q (live t ws n) ≡ some i
+  pub turn-found : {buf ws' buf' : List ℕ} {m n' m' : ℕ} (i : ℕ) → first_at q (live t ws n) ≡ Some i
       → Played t entry (f (get_or (rows_of t ws) i t.blank)) i (get_or (rows_of t ws) i t.blank) ws n buf m ws' n' buf' m'
       → Turned t entry q f ws n buf m ws' n' buf' m'
   turn-found i e p =
@@ -166,8 +165,8 @@ module _ {A : Type 0} {t : Table A} {entry : A → Entry} {ws : List ℕ} {n : �
       told-found entry q f (live t ws n) (get_or (live t ws n) i t.blank) g.is ∙ ap (λ (x : A). told (entry x) (f x)) at in
       record { table = rw mv p.table; tells = rw sd p.tells }
 
-  -- there is none
-  pub turn-missed : {buf : List ℕ} {m : ℕ} → first_at q (live t ws n) ≡ none → Turned t entry q f ws n buf m ws n buf m
+  -- there is None
+  pub turn-missed : {buf : List ℕ} {m : ℕ} → first_at q (live t ws n) ≡ None → Turned t entry q f ws n buf m ws n buf m
   turn-missed {buf} {m} e =
       let g = first-missed q f (live t ws n) e in
       let sd : at_first_told entry q f (live t ws n) ≡ [] = told-missed entry q f (live t ws n) g.is in

@@ -1,9 +1,8 @@
 -- Actions in words: which words tell an action, what they say, and what a buffer holds once actions are told from a place on.
-use Rattle.std.specs.Prelude.{ℕ, ◌+◌, ◌*◌, ◌/◌, ◌%◌, ◌<◌, ◌≡◌, List, [], ◌∷◌, length, get_or, eqb}
+use Rattle.std.specs.Prelude.{ℕ, ◌+◌, ◌*◌, ◌/◌, ◌%◌, ◌<◌, ◌≡◌, List, [], ◌∷◌, length, get_or, eqb, Option}
 use Rattle.std.proofs.lemmas.List.Edits.{sets}
 use Rattle.records.specs.Pick.{pick}
 use Rattle.records.specs.Numbers.{verdict_number, verdict_address, verdict_code}
-use Rattle.records.specs.declared.Opt16.{Opt16}
 use Rattle.records.specs.declared.Address.{Address}
 use Rattle.records.specs.declared.SendFailure.{SendFailure}
 use Rattle.records.specs.declared.SendFailure.TheVariants.{HandoffTimeout, ApsAckTimeout, IndirectExpired, RouteDiscoveryTimeout, BroadcastQuorumNotReached, Cancelled}
@@ -27,11 +26,11 @@ abbrev pub verdict_from : ℕ → Address → ℕ → Verdict
 verdict_from n a c = pick (eqb n 0) Success (pick (eqb n 7) (Code c) (Failure (failure_from n a)))
 
 -- the word of a settled action that holds all but its numbers
-abbrev pub settled_tags : Verdict → Opt16 → ℕ
+abbrev pub settled_tags : Verdict → Option ℕ → ℕ
 settled_tags v hop = 1 + 2 * (verdict_number v + 8 * (address_tag (verdict_address v) + 4 * (verdict_code v + 65536 * opt16_word hop)))
 
 -- r is that word; what is narrow in it
-pub record CodedTags (v : Verdict) (hop : Opt16) (r : ℕ) : Type 0 where
+pub record CodedTags (v : Verdict) (hop : Option ℕ) (r : ℕ) : Type 0 where
   pub is : r ≡ settled_tags v hop
   pub code : verdict_code v < 65536
   pub hop-back : Coded opt16_word opt16_from 131072 hop (opt16_word hop)

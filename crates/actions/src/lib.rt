@@ -7,10 +7,10 @@ ghost use Rattle.rows.specs.Moves.{settling};
 ghost use Rattle.records.specs.declared.Action.TheVariants.{HandedOff, Settled};
 ghost use Rattle.actions.specs.Told.{failure_from, verdict_from, action_from, action_at, CodedTags, Told};
 
-use records::{Action, Entry, Opt16, SendFailure, Verdict};
+use records::{Action, Entry, SendFailure, Verdict};
 
 // The word of a settled action that holds all but its numbers.
-fn tags_of(v: Verdict, hop: Opt16) -> u64
+fn tags_of(v: Verdict, hop: Option<u16>) -> u64
     ensures { CodedTags v hop result }
 {
     let number = records::numbers::verdict_number(v) as u64;
@@ -36,7 +36,7 @@ pub fn hand_off(told: &mut [u64; 560], m: usize, e: Entry) -> usize
 }
 
 // Tells at place m that the send is over.
-pub fn settle(told: &mut [u64; 560], m: usize, e: Entry, v: Verdict, hop: Opt16) -> usize
+pub fn settle(told: &mut [u64; 560], m: usize, e: Entry, v: Verdict, hop: Option<u16>) -> usize
     requires { m < 112 }
     ensures { Told m (Settled e v hop ∷ []) told.old told.new result }
 {
@@ -57,7 +57,7 @@ pub fn settle_again(
     e: Entry,
     again: bool,
     v: Verdict,
-    hop: Opt16,
+    hop: Option<u16>,
 ) -> usize
     requires { m + 2 ≤ 112 }
     ensures { Told m (settling e again v hop) told.old told.new result }

@@ -1,10 +1,10 @@
--- What taking a route does, send by send: of the sends to a destination the first goes, then the next, until none is left. Assumes nothing.
+-- What taking a route does, send by send: of the sends to a destination the first goes, then the next, until None is left. Assumes nothing.
+use Rattle.std.specs.Prelude.{Option, None, Some}
 use Prim.Native.Nat.{ℕ, ◌+◌, ◌-◌, ◌≤◌, ◌<◌}
 use native.Mathlib.Omega.{arith}
 use mathlib.Core.Path.{◌≡◌, refl, sym, ap, ap₂, ◌∙◌}
 use mathlib.Core.Bool.{Bool, true, false, not}
 use mathlib.Core.List.{List, [], ◌∷◌, ◌++◌, append-nil, append_assoc}
-use mathlib.Core.Option.{Option, none, some}
 use lib.ListN.{length, take, drop, get_or, drop_of_length-le}
 use borrow.Author.Tests.{eq-eqb, ne_eqb, le-leb, lt-ltb, le-ltb}
 use Rattle.records.specs.Pick.{pick, bit}
@@ -17,8 +17,6 @@ use Rattle.tables.specs.Layouts.{unicast_table, unrouted_table, destination_tabl
 use Rattle.actions.specs.Told.{Told}
 use Rattle.actions.specs.Calls.{Swept}
 use Rattle.actions.proofs.Lines.{told_none, told-append}
-use Rattle.unrouted.specs.declared.NextSend.{NextSend}
-use Rattle.unrouted.specs.declared.NextSend.TheVariants.{Nothing, Took}
 use Rattle.unrouted.specs.Rules.{spent_by, sweep_turn, goes_to, left_to, drop_first, took_of}
 use Rattle.unrouted.specs.Calls.{Taken, Retried}
 use Rattle.unrouted.proofs.Turns.{bit_le}
@@ -29,7 +27,7 @@ use Rattle.model.proofs.Fews.{sweep-one}
 use Rattle.model.proofs.Kepts.{kept-only}
 use Rattle.model.proofs.Routings.{left-count}
 use Rattle.model.proofs.Routes.{entering-length}
-use Rattle.doing.specs.Types.{None16, Address, Entry, Code, Settled, TimeTooLate, ResultsMismatch, NoPlace, Accepted, Lapsed, Settings, Unicast, Unrouted, Resolved, Reached, Unreached, Action, Retry, NotHeld, Declined, Granted, Counts, Did}
+use Rattle.doing.specs.Types.{Address, Entry, Code, Settled, TimeTooLate, ResultsMismatch, NoPlace, Accepted, Lapsed, Settings, Unicast, Unrouted, Resolved, Reached, Unreached, Action, Retry, NotHeld, Declined, Granted, Counts, Did}
 use Rattle.admitting.specs.declared.routes.Entered.{Entered}
 use Rattle.admitting.specs.declared.routes.Gone.{Gone}
 use Rattle.doing.specs.Parts.{quietly}
@@ -65,11 +63,11 @@ module _ (q : Unrouted → Bool) where
   abbrev others : Unrouted → Bool
   others u = not (q u)
 
-  pub first-only : (xs : List Unrouted) (u : Unrouted) → first_of q xs ≡ some u → only q xs ≡ u ∷ only q (drop_first q xs)
+  pub first-only : (xs : List Unrouted) (u : Unrouted) → first_of q xs ≡ Some u → only q xs ≡ u ∷ only q (drop_first q xs)
   first-only [] u e = let z : ◌≡◌ {A = ℕ} 0 1 = cc in absurd (omega arith)
   first-only (x ∷ xs) u e = go (q x) refl e (first-only xs u)
     where
-      go : (b : Bool) → q x ≡ b → pick b (some x) (first_of q xs) ≡ some u → (first_of q xs ≡ some u → only q xs ≡ u ∷ only q (drop_first q xs))
+      go : (b : Bool) → q x ≡ b → pick b (Some x) (first_of q xs) ≡ Some u → (first_of q xs ≡ Some u → only q xs ≡ u ∷ only q (drop_first q xs))
           → pick b (x ∷ only q xs) (only q xs) ≡ u ∷ only q (pick b xs (x ∷ drop_first q xs))
       go true f e ih = let z : x ≡ u = cc in ap (λ (y : Unrouted). y ∷ only q xs) z
       go false f e ih = rw f (ih e)
@@ -83,11 +81,11 @@ module _ (q : Unrouted → Bool) where
       go true f ih = refl
       go false f ih = rw f (ap (λ (l : List Unrouted). x ∷ l) ih)
 
-  pub none_only : (xs : List Unrouted) → first_of q xs ≡ none → only q xs ≡ []
+  pub none_only : (xs : List Unrouted) → first_of q xs ≡ None → only q xs ≡ []
   none_only [] e = refl
   none_only (x ∷ xs) e = go (q x) e (none_only xs)
     where
-      go : (b : Bool) → pick b (some x) (first_of q xs) ≡ none → (first_of q xs ≡ none → only q xs ≡ []) → pick b (x ∷ only q xs) (only q xs) ≡ []
+      go : (b : Bool) → pick b (Some x) (first_of q xs) ≡ None → (first_of q xs ≡ None → only q xs ≡ []) → pick b (x ∷ only q xs) (only q xs) ≡ []
       go true e ih = let z : ◌≡◌ {A = ℕ} 0 1 = cc in absurd (omega arith)
       go false e ih = ih e
 
@@ -100,13 +98,13 @@ module _ (q : Unrouted → Bool) where
       go true e ih = absurd (omega arith)
       go false e ih = ap (λ (l : List Unrouted). x ∷ l) (ih e)
 
-pub took-some : (o : Option Unrouted) (u : Unrouted) → Took u ≡ took_of o → o ≡ some u
-took-some none u e = let z : ◌≡◌ {A = ℕ} 0 1 = cc in absurd (omega arith)
-took-some (some v) u e = cc
+pub took-some : (o : Option Unrouted) (u : Unrouted) → Some u ≡ took_of o → o ≡ Some u
+took-some None u e = let z : ◌≡◌ {A = ℕ} 0 1 = cc in absurd (omega arith)
+took-some (Some v) u e = cc
 
-pub nothing-none : (o : Option Unrouted) → Nothing ≡ took_of o → o ≡ none
-nothing-none none e = refl
-nothing-none (some v) e = let z : ◌≡◌ {A = ℕ} 0 1 = cc in absurd (omega arith)
+pub nothing-none : (o : Option Unrouted) → None ≡ took_of o → o ≡ None
+nothing-none None e = refl
+nothing-none (Some v) e = let z : ◌≡◌ {A = ℕ} 0 1 = cc in absurd (omega arith)
 
 -- ---- one send has its result, and then the others
 
@@ -129,7 +127,7 @@ module _ {s : Settings} {now : ℕ} {u : Unrouted} {x : Resolved} {ws buf : List
   one-reached hop a e f h = rw e (record { table = rw (← f) h; tells = told_none m buf })
 
   pub one-unreached : {buf' : List ℕ} {k : ℕ} (code : ℕ) {e : Entry} → x ≡ Unreached code → e ≡ unrouted_entry u → Held unicast_table ws n
-      → Told m (Settled e (Code code) None16 ∷ []) buf buf' k → RoutedOne s now u x ws n buf m ws buf' (record { sends = n; told = k })
+      → Told m (Settled e (Code code) None ∷ []) buf buf' k → RoutedOne s now u x ws n buf m ws buf' (record { sends = n; told = k })
   one-unreached code e f h t = rw e (record { table = held-holds h; tells = rw (← f) t })
 
 module _ (s : Settings) (d now : ℕ) (results : List Resolved) (many : ℕ) (ws₀ : List ℕ) (n₀ : ℕ) (vs₀ : List ℕ) (k₀ : ℕ) (buf₀ : List ℕ) (m₀ : ℕ) where
@@ -177,7 +175,7 @@ module _ {s : Settings} {d now : ℕ} {results : List Resolved} {many : ℕ} {ws
         omega arith
 
     -- a send is left for each result that is
-    pub route-some : {vs' : List ℕ} {y : NextSend} → i < many → Taken d vs k vs' y → y ≡ Nothing → ⊥
+    pub route-some : {vs' : List ℕ} {y : Option Unrouted} → i < many → Taken d vs k vs' y → y ≡ None → ⊥
     route-some l t e =
         let z : only (goes_to d) (live unrouted_table vs k) ≡ [] = none_only (goes_to d) (live unrouted_table vs k) (nothing-none _ (sym e ∙ t.answer)) in
         omega (arith, r.left, ap length z)
@@ -187,7 +185,7 @@ module _ {s : Settings} {d now : ℕ} {results : List Resolved} {many : ℕ} {ws
         let kept : Kept unrouted_id k (live unrouted_table vs k) = record { rising = r.unrouted.rising; within = omega (arith, held-length r.unrouted) } in
         omega (arith, r.left, (kept-only unrouted_id (goes_to d) kept).within)
 
-    pub route-turn : {ws' vs' buf' : List ℕ} {y : NextSend} {e : Entered} (u : Unrouted) (x : Resolved) → i < many → Taken d vs k vs' y → y ≡ Took u
+    pub route-turn : {ws' vs' buf' : List ℕ} {y : Option Unrouted} {e : Entered} (u : Unrouted) (x : Resolved) → i < many → Taken d vs k vs' y → y ≡ Some u
         → RoutedOne s now u (get_or results i x) ws n buf m ws' buf' e
         → Routing s d now results many ws₀ n₀ vs₀ k₀ buf₀ m₀ ws' e.sends vs' (k - 1) buf' e.told (i + 1)
     route-turn {ws'} {vs'} {buf'} {y} {e} u x l t f o =

@@ -2,7 +2,6 @@
 ghost use Rattle.std.specs.Prelude.{◌≡◌, ◌+◌, ◌≤◌, ◌<◌};
 ghost use Rattle.records.specs.Limits.{last_time};
 ghost use Rattle.records.specs.Records.{unicast_id, broadcast_id};
-ghost use Rattle.records.specs.declared.Opt32.TheVariants.{None32, Some32};
 ghost use Rattle.rows.specs.Lists.{insert_by};
 ghost use Rattle.rows.specs.Tables.{live, Held, Holds};
 ghost use Rattle.tables.specs.Layouts.{unicast_table, broadcast_table};
@@ -11,12 +10,10 @@ ghost use Rattle.model.specs.Calls.{attempt_late, enqueue_of, enqueue_unicast_of
 ghost use Rattle.doing.specs.Parts.{unicast_as, unrouted_as, broadcast_as, drawn_by};
 
 use model::{Answer, Counts, Did, NewBroadcast, NewUnicast, NewUnrouted};
-use records::{Broadcast, Opt32, Opt64, Refusal, Schedule, Settings, Unicast, Unrouted};
-use rows::Inserted;
-use unrouted::Entering;
+use records::{Broadcast, Refusal, Schedule, Settings, Unicast, Unrouted};
 
 // The send as it is admitted.
-fn unicast_as(id: u32, u: NewUnicast, copy: Opt32, s: Settings, clock: u64) -> Unicast
+fn unicast_as(id: u32, u: NewUnicast, copy: Option<u32>, s: Settings, clock: u64) -> Unicast
     requires { clock ≤ last_time }
     ensures { result ≡ unicast_as id u copy s clock }
 {
@@ -34,7 +31,7 @@ fn unicast_as(id: u32, u: NewUnicast, copy: Opt32, s: Settings, clock: u64) -> U
         copy,
         s,
         clock,
-        Opt64::None64,
+        None,
     )
 }
 
@@ -72,8 +69,8 @@ pub(crate) fn enter_unicast(w: &mut [u64; 320], n: usize, u: Unicast) -> usize
     ensures { Holds unicast_table w.new result (insert_by unicast_id u (live unicast_table w.old n)) }
 {
     match tables::unicast_rows::insert(w, n, u) {
-        Inserted::Full => n,
-        Inserted::Holding(m) => m,
+        None => n,
+        Some(m) => m,
     }
 }
 
@@ -83,8 +80,8 @@ fn enter_broadcast(w: &mut [u64; 112], n: usize, u: Broadcast) -> usize
     ensures { Holds broadcast_table w.new result (insert_by broadcast_id u (live broadcast_table w.old n)) }
 {
     match tables::broadcast_rows::insert(w, n, u) {
-        Inserted::Full => n,
-        Inserted::Holding(m) => m,
+        None => n,
+        Some(m) => m,
     }
 }
 
@@ -113,7 +110,7 @@ fn enqueue(
     told: &mut [u64; 560],
     s: Settings,
     u: NewUnicast,
-    copy: Opt32,
+    copy: Option<u32>,
     clock: u64,
 ) -> Did
     requires { SoundTables c w.old v.old d.old b.old }
@@ -148,7 +145,7 @@ pub fn enqueue_unicast(
     requires { SoundTables c w.old v.old d.old b.old }
     ensures { Does (enqueue_unicast_of (lent_model c w.old v.old d.old b.old) s u clock) told.old w.new v.new d.new b.new told.new result }
 {
-    enqueue(c, w, v, d, b, told, s, u, Opt32::None32, clock)
+    enqueue(c, w, v, d, b, told, s, u, None, clock)
 }
 
 // A broadcast's copy for one sleepy child.
@@ -167,7 +164,7 @@ pub fn enqueue_broadcast_copy(
     requires { SoundTables c w.old v.old d.old b.old }
     ensures { Does (enqueue_copy_of (lent_model c w.old v.old d.old b.old) s broadcast u clock) told.old w.new v.new d.new b.new told.new result }
 {
-    enqueue(c, w, v, d, b, told, s, u, Opt32::Some32(broadcast), clock)
+    enqueue(c, w, v, d, b, told, s, u, Some(broadcast), clock)
 }
 
 // A unicast with no route yet, held until its destination's discovery ends.
@@ -193,8 +190,8 @@ pub fn enqueue_unrouted_unicast(
     }
     let x = unrouted_as(c.next_id, u, s, clock);
     match unrouted::enqueue(v, c.unrouted, d, c.held, x, s.discovery_attempts) {
-        Entering::NoRoom => doing::denied(c, Refusal::NoPlace),
-        Entering::Entered(n, k) => issued(c, c.unicasts, n, k, c.broadcasts),
+        None => doing::denied(c, Refusal::NoPlace),
+        Some((n, k)) => issued(c, c.unicasts, n, k, c.broadcasts),
     }
 }
 

@@ -11,8 +11,8 @@ ghost use Rattle.model.specs.Model.{lent_model, SoundTables, Does};
 ghost use Rattle.model.specs.Calls.{reached, routed, retry_of, fail_of, route_of, routing};
 
 use model::{Answer, Counts, Did, Resolved};
-use records::{Address, Opt16, Opt32, Opt64, Refusal, Settings, Unicast, Unrouted, Verdict};
-use unrouted::{NextSend, Retry, Which};
+use records::{Address, Refusal, Settings, Unicast, Unrouted, Verdict};
+use unrouted::{Retry, Which};
 
 // How many unicasts there are, and the next place in the buffer.
 #[derive(Clone, Copy)]
@@ -114,10 +114,10 @@ fn routed_as(s: Settings, clock: u64, u: Unrouted, hop: u16, a: Address) -> Unic
         f,
         hop,
         a,
-        Opt32::None32,
+        None,
         s,
         clock,
-        Opt64::Some64(u.deadline),
+        Some(u.deadline),
     )
 }
 
@@ -146,7 +146,7 @@ fn route_one(
         }
         Resolved::Unreached(code) => {
             let e = records::blanks::unrouted_entry(u);
-            let next = actions::settle(told, m, e, Verdict::Code(code), Opt16::None16);
+            let next = actions::settle(told, m, e, Verdict::Code(code), None);
             Entered {
                 sends: n,
                 told: next,
@@ -181,14 +181,14 @@ fn route_all(
     let mut i: usize = 0;
     while i < count {
         match unrouted::take(v, k, destination) {
-            NextSend::Nothing => {
+            None => {
                 return Gone {
                     unicasts: n,
                     unrouted: k,
                     told: m,
                 };
             }
-            NextSend::Took(u) => {
+            Some(u) => {
                 let x = route_one(w, n, told, m, s, clock, u, results[i]);
                 n = x.sends;
                 m = x.told;

@@ -1,4 +1,5 @@
 -- 01's worked output as answers, and three answers that the Rust gave (stored/1-rules.bin). Assumes nothing.
+use Rattle.std.specs.Prelude.{None, Some}
 use Prim.Native.Nat.{ℕ}
 use mathlib.Core.Path.{◌≡◌, refl}
 use mathlib.Core.Bool.{true}
@@ -6,7 +7,7 @@ use mathlib.Core.List.{[], ◌∷◌}
 use Rattle.records.specs.declared.Address.TheVariants.{Extended}
 use Rattle.records.specs.declared.SendFailure.TheVariants.{IndirectExpired}
 use Rattle.records.specs.declared.Verdict.TheVariants.{Failure, Code}
-use Rattle.answers.specs.Types.{Entry, None16, Some16, Unicasting, Broadcasting, Done, Id, Settlement, Flight, End}
+use Rattle.answers.specs.Types.{Entry, Unicasting, Broadcasting, Done, Id, Settlement, Flight, End}
 use Rattle.answers.specs.Items.{item_bytes, items_bytes}
 
 -- 82 00 00 00 00 81 85 00 00 00 00 07 00 00 00 01 00 00 00 81 8D 00 2C 00 00 00
@@ -22,11 +23,11 @@ abbrev entry : ℕ → ℕ → ℕ → Entry
 entry id waiter frame = record { id = id; waiter = waiter; frame = frame }
 
 -- expired under the extended address 0102030405060708
-pub expired : item_bytes (Settlement (entry 1 65 17) (Failure (IndirectExpired (Extended 72623859790382856))) None16)
+pub expired : item_bytes (Settlement (entry 1 65 17) (Failure (IndirectExpired (Extended 72623859790382856))) None)
     ≡ 132 ∷ 1 ∷ 0 ∷ 0 ∷ 0 ∷ 65 ∷ 0 ∷ 0 ∷ 0 ∷ 17 ∷ 0 ∷ 0 ∷ 0 ∷ 3 ∷ 2 ∷ 8 ∷ 7 ∷ 6 ∷ 5 ∷ 4 ∷ 3 ∷ 2 ∷ 1 ∷ 0 ∷ 0 ∷ 0 ∷ 0 ∷ 0 ∷ []
 expired = refl
 
 -- failed with the caller's code 7, its attempts run out at hop 112
-pub ran_out : item_bytes (Settlement (entry 0 64 16) (Code 7) (Some16 112))
+pub ran_out : item_bytes (Settlement (entry 0 64 16) (Code 7) (Some 112))
     ≡ 132 ∷ 0 ∷ 0 ∷ 0 ∷ 0 ∷ 64 ∷ 0 ∷ 0 ∷ 0 ∷ 16 ∷ 0 ∷ 0 ∷ 0 ∷ 7 ∷ 0 ∷ 0 ∷ 0 ∷ 0 ∷ 0 ∷ 0 ∷ 0 ∷ 0 ∷ 0 ∷ 7 ∷ 0 ∷ 1 ∷ 112 ∷ 0 ∷ []
 ran_out = refl

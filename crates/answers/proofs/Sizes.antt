@@ -1,15 +1,16 @@
 -- How long each answer is: its kind's length in 01's list, and one for the kind itself. Assumes nothing.
+use Rattle.std.specs.Prelude.{Option, None, Some}
 use Prim.Native.Nat.{ℕ, ◌+◌, ◌≤◌}
 use native.Mathlib.Omega.{arith}
 use mathlib.Core.Path.{◌≡◌, refl}
 use lib.ListN.{length, get_or}
-use Rattle.answers.specs.Types.{Opt16, None16, Some16, Verdict, Entry, Action, Transmit, Unicasting, Broadcasting, Item, Refused, Done, Id, Handoff, Settlement, Flight, YesNo, Time, ShortAddress, ExtendedAddress, Key, Abandonment, DestinationAddress, End}
+use Rattle.answers.specs.Types.{Verdict, Entry, Action, Transmit, Unicasting, Broadcasting, Item, Refused, Done, Id, Handoff, Settlement, Flight, YesNo, Time, ShortAddress, ExtendedAddress, Key, Abandonment, DestinationAddress, End}
 use Rattle.answers.specs.Items.{settled_bytes, flight_bytes, item_bytes, action_item, action_bytes}
 use Rattle.framing.specs.Kinds.{body_of}
 
-pub settled-long : (e : Entry) (v : Verdict) (hop : Opt16) → length (settled_bytes e v hop) ≡ 28
-settled-long e v None16 = refl
-settled-long e v (Some16 x) = refl
+pub settled-long : (e : Entry) (v : Verdict) (hop : Option ℕ) → length (settled_bytes e v hop) ≡ 28
+settled-long e v None = refl
+settled-long e v (Some x) = refl
 
 pub flight-long : (id frame : ℕ) (t : Transmit) → length (flight_bytes id frame t) ≡ 13
 flight-long id frame (Unicasting hop pending) = refl

@@ -1,10 +1,10 @@
 -- Each answer as 01 lays it out: the number of its kind, then its values, the lower byte first; absent parts are zero.
-use Rattle.std.specs.Prelude.{ℕ, List, [], ◌∷◌, ◌++◌}
+use Rattle.std.specs.Prelude.{ℕ, List, [], ◌∷◌, ◌++◌, Option, None, Some}
 use Rattle.records.specs.Pick.{bit}
 use Rattle.records.specs.Numbers.{refusal_number, verdict_number, verdict_address, verdict_code}
 use Rattle.codes.specs.Codes.{address_tag, address_word}
 use Rattle.answers.specs.Bytes.{le_bytes}
-use Rattle.answers.specs.Types.{Opt16, None16, Some16, Address, QuorumKey, Verdict, Entry, Action, HandedOff, Settled, Transmit, Unicasting, Broadcasting, Item, Refused, Done, Id, Handoff, Settlement, Flight, YesNo, Time, ShortAddress, ExtendedAddress, Key, Abandonment, DestinationAddress, End}
+use Rattle.answers.specs.Types.{Address, QuorumKey, Verdict, Entry, Action, HandedOff, Settled, Transmit, Unicasting, Broadcasting, Item, Refused, Done, Id, Handoff, Settlement, Flight, YesNo, Time, ShortAddress, ExtendedAddress, Key, Abandonment, DestinationAddress, End}
 
 -- ---- parts
 
@@ -13,9 +13,9 @@ abbrev pub address_bytes : Address → List ℕ
 address_bytes a = address_tag a ∷ le_bytes 8 (address_word a)
 
 -- flag, hop
-abbrev pub hop_bytes : Opt16 → List ℕ
-hop_bytes None16 = 0 ∷ le_bytes 2 0
-hop_bytes (Some16 x) = 1 ∷ le_bytes 2 x
+abbrev pub hop_bytes : Option ℕ → List ℕ
+hop_bytes None = 0 ∷ le_bytes 2 0
+hop_bytes (Some x) = 1 ∷ le_bytes 2 x
 
 -- number, address, code
 abbrev pub verdict_bytes : Verdict → List ℕ
@@ -29,7 +29,7 @@ transmit_bytes Broadcasting = 1 ∷ (le_bytes 2 0 ++ (0 ∷ []))
 -- ---- items
 
 -- id, waiter, frame, verdict, hop
-abbrev pub settled_bytes : Entry → Verdict → Opt16 → List ℕ
+abbrev pub settled_bytes : Entry → Verdict → Option ℕ → List ℕ
 settled_bytes e v hop = 132 ∷ (le_bytes 4 e.id ++ (le_bytes 4 e.waiter ++ (le_bytes 4 e.frame ++ (verdict_bytes v ++ hop_bytes hop))))
 
 -- id, frame, how it goes out

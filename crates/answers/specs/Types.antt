@@ -1,6 +1,4 @@
 -- The declared types that the answers speak of and their variants, under one name.
-pub use Rattle.records.specs.declared.Opt16.{Opt16}
-pub use Rattle.records.specs.declared.Opt16.TheVariants.{None16, Some16}
 pub use Rattle.records.specs.declared.Address.{Address}
 pub use Rattle.records.specs.declared.QuorumKey.{QuorumKey}
 pub use Rattle.records.specs.declared.Verdict.{Verdict}

@@ -7,7 +7,7 @@ ghost use Rattle.answers.specs.Items.{item_bytes, action_bytes};
 ghost use Rattle.answers.specs.Types.{Refused, Done, Id, YesNo, Time, ShortAddress, ExtendedAddress, Abandonment, DestinationAddress};
 
 use model::Transmit;
-use records::{Action, Entry, Opt16, QuorumKey, Refusal, Verdict};
+use records::{Action, Entry, QuorumKey, Refusal, Verdict};
 
 pub mod bytes;
 pub mod parts;
@@ -20,7 +20,7 @@ pub enum Item {
     Done,
     Id(u32),
     Handoff(u32, u32),
-    Settlement(Entry, Verdict, Opt16),
+    Settlement(Entry, Verdict, Option<u16>),
     Flight(u32, u32, Transmit),
     YesNo(bool),
     Time(u64),

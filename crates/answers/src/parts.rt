@@ -4,7 +4,7 @@ ghost use Rattle.answers.specs.Bytes.{Written};
 ghost use Rattle.answers.specs.Items.{address_bytes, hop_bytes, verdict_bytes, transmit_bytes, settled_bytes, flight_bytes, key_bytes, end_bytes};
 
 use model::Transmit;
-use records::{Address, Entry, Opt16, QuorumKey, Verdict};
+use records::{Address, Entry, QuorumKey, Verdict};
 
 // A tag and eight bytes.
 pub(crate) fn put_address(out: &mut [u8], at: usize, a: Address) -> usize
@@ -30,18 +30,18 @@ pub(crate) fn put_verdict(out: &mut [u8], at: usize, v: Verdict) -> usize
 }
 
 // A flag and the hop at which the attempts ran out.
-pub(crate) fn put_hop(out: &mut [u8], at: usize, hop: Opt16) -> usize
+pub(crate) fn put_hop(out: &mut [u8], at: usize, hop: Option<u16>) -> usize
     requires { at + 3 ≤ length out.old }
     ensures { Written at (hop_bytes hop) out.old out.new result }
 {
     match hop {
-        Opt16::None16 => crate::bytes::put_number(out, at, 0, 2, 0),
-        Opt16::Some16(x) => crate::bytes::put_number(out, at, 1, 2, x as u64),
+        None => crate::bytes::put_number(out, at, 0, 2, 0),
+        Some(x) => crate::bytes::put_number(out, at, 1, 2, x as u64),
     }
 }
 
 // 132: id, waiter, frame, verdict, hop.
-pub(crate) fn put_settled(out: &mut [u8], at: usize, e: Entry, v: Verdict, hop: Opt16) -> usize
+pub(crate) fn put_settled(out: &mut [u8], at: usize, e: Entry, v: Verdict, hop: Option<u16>) -> usize
     requires { at + 28 ≤ length out.old }
     ensures { Written at (settled_bytes e v hop) out.old out.new result }
 {

@@ -4,34 +4,34 @@ ghost use Rattle.records.specs.declared.SendFailure.TheVariants.{ApsAckTimeout};
 ghost use Rattle.sending.specs.declared.Due.TheVariants.{Leave};
 ghost use Rattle.sending.specs.Rules.{unsent, under, copies_by, pending_head, pends_head, beside_head, sent_copy_head, sought_head, lapse_due, retry_due, tick_due, drop_due, copy_due, due_head, better_of, sooner_than, wake_head};
 
-use records::{Address, Opt16, Opt32, Opt64, SendFailure, Stage};
-use sending::{Best, Due, Sought, Which};
+use records::{Address, SendFailure, Stage};
+use sending::{Due, Sought, Which};
 use tables::unicast_rows::UnicastHead;
 
 // ---- what a scan asks
 
-pub fn is_under(a: Address, eui: Opt64, nwk: Opt16) -> bool
+pub fn is_under(a: Address, eui: Option<u64>, nwk: Option<u16>) -> bool
     ensures { result ≡ under eui nwk a }
 {
     match a {
         Address::Absent => false,
         Address::Short(n) => match nwk {
-            Opt16::None16 => false,
-            Opt16::Some16(m) => n == m,
+            None => false,
+            Some(m) => n == m,
         },
         Address::Extended(n) => match eui {
-            Opt64::None64 => false,
-            Opt64::Some64(m) => n == m,
+            None => false,
+            Some(m) => n == m,
         },
     }
 }
 
-fn is_copy(o: Opt32, id: u32) -> bool
+fn is_copy(o: Option<u32>, id: u32) -> bool
     ensures { result ≡ copies_by id o }
 {
     match o {
-        Opt32::None32 => false,
-        Opt32::Some32(j) => j == id,
+        None => false,
+        Some(j) => j == id,
     }
 }
 
@@ -146,13 +146,13 @@ fn tick_due(h: UnicastHead, clock: u64) -> Due
     }
 }
 
-fn drop_due(h: UnicastHead, eui: Opt64, nwk: u16) -> Due
+fn drop_due(h: UnicastHead, eui: Option<u64>, nwk: u16) -> Due
     ensures { result ≡ drop_due eui nwk h }
 {
     let s = h.stage;
     let a = h.poll_address;
     if turning::rules::is_awaiting(s) {
-        if is_under(a, eui, Opt16::Some16(nwk)) {
+        if is_under(a, eui, Some(nwk)) {
             return Due::Finish(false, unsent_failure(a));
         }
     }
@@ -183,17 +183,17 @@ pub fn due_of(h: UnicastHead, which: Which) -> Due
 // ---- the turns of a fold
 
 // The better of a send and the best of those with a higher id.
-pub fn better_of(h: UnicastHead, b: Best) -> Best
+pub fn better_of(h: UnicastHead, b: Option<(u32, Priority)>) -> Option<(u32, Priority)>
     ensures { result ≡ better_of h b }
 {
     let p = h.priority;
     match b {
-        Best::NoneReady => Best::Ready(h.id, p),
-        Best::Ready(id, q) => {
+        None => Some((h.id, p)),
+        Some((id, q)) => {
             if records::priorities::rank(p) < records::priorities::rank(q) {
-                return Best::Ready(id, q);
+                return Some((id, q));
             }
-            Best::Ready(h.id, p)
+            Some((h.id, p))
         }
     }
 }
@@ -207,7 +207,7 @@ fn sooner_than(at: u64, d: u64) -> u64
     d
 }
 
-pub fn wake_with(h: UnicastHead, o: Opt64) -> Opt64
+pub fn wake_with(h: UnicastHead, o: Option<u64>) -> Option<u64>
     ensures { result ≡ wake_head h o }
 {
     let s = h.stage;

@@ -1,12 +1,12 @@
 -- Each contract admits one outcome: any two are equal. Assumes nothing.
+use Rattle.std.specs.Prelude.{Option}
 use Prim.Native.Nat.{ℕ}
 use native.Mathlib.Omega.{arith}
 use mathlib.Core.Path.{◌≡◌, sym, ap, ◌∙◌}
 use mathlib.Core.List.{List}
-use mathlib.Core.Option.{Option}
 use Rattle.rows.specs.Moves.{Turn}
 use Rattle.actions.proofs.Ones.{OneOutcome, turned-one}
-use Rattle.casting.specs.Types.{Broadcast, Opt32, Refusal}
+use Rattle.casting.specs.Types.{Broadcast, Refusal}
 use Rattle.casting.specs.declared.Counts.{Counts}
 use Rattle.casting.specs.declared.Outcome.{Outcome}
 use Rattle.casting.specs.declared.Outcome.TheVariants.{Refused, Done}
@@ -14,7 +14,7 @@ use Rattle.casting.specs.Rules.{refusal_of}
 use Rattle.broadcasts.specs.Calls.{After, Answered, Dequeued}
 
 module _ {id : ℕ} {ws ws₁ ws₂ : List ℕ} {n : ℕ} where
-  pub dequeued-one : {r₁ r₂ : Opt32} → Dequeued id ws n ws₁ r₁ → Dequeued id ws n ws₂ r₂ → (ws₁ ≡ ws₂) × (r₁ ≡ r₂)
+  pub dequeued-one : {r₁ r₂ : Option ℕ} → Dequeued id ws n ws₁ r₁ → Dequeued id ws n ws₂ r₂ → (ws₁ ≡ ws₂) × (r₁ ≡ r₂)
   dequeued-one p q = (p.table.is ∙ sym q.table.is, p.answer ∙ sym q.answer)
 
   pub answered-one : {bar : Option Broadcast → Option Refusal} {f : Broadcast → Turn Broadcast} {buf buf₁ buf₂ : List ℕ} {m : ℕ} {r₁ r₂ : Outcome}

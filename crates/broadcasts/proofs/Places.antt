@@ -1,5 +1,6 @@
 -- What the words that are read of one place say of its broadcast: the state of its copy and its deadline first, then the rest. And what a scan for one with a test
 -- says. Assumes nothing.
+use Rattle.std.specs.Prelude.{Option, None, Some}
 use Prim.Native.Nat.{ℕ, ◌≤◌, ◌<◌}
 use native.Mathlib.Omega.{arith}
 use mathlib.Core.Path.{◌≡◌, refl, sym, ap, ap₂, ◌∙◌}
@@ -8,14 +9,12 @@ use mathlib.Core.List.{List}
 use borrow.Author.Tests.{lt-leb, le-leb}
 use Rattle.records.specs.Priorities.{rank_of}
 use Rattle.records.specs.Records.{blank_broadcast}
-use Rattle.rows.specs.declared.Place.TheVariants.{Nowhere, Here}
 use Rattle.rows.specs.Lists.{place_at}
 use Rattle.rows.specs.Moves.{first_at, any_of}
 use Rattle.rows.specs.Moves.Turn.{Keeps}
 use Rattle.rows.proofs.Promises.{here-some, nowhere-none, first_found, first-missed}
 use Rattle.tables.specs.Layouts.{broadcast_head}
 use Rattle.casting.specs.Types.{CopyState, Broadcast, BroadcastHead}
-use Rattle.casting.specs.declared.Best.{Best}
 use Rattle.casting.specs.Rules.{ready_by, ready, better, best_head, copy_due, may_stir}
 
 -- a test is what was computed for it
@@ -23,17 +22,17 @@ pub said : {q r x : Bool} → r ≡ q → r ≡ x → q ≡ x
 said e f = sym e ∙ f
 
 module _ (q : Broadcast → Bool) (bs : List Broadcast) where
-  pub any-there : {i : ℕ} → Here i ≡ place_at (first_at q bs) → true ≡ any_of q bs
+  pub any-there : {i : ℕ} → Some i ≡ place_at (first_at q bs) → true ≡ any_of q bs
   any-there {i} e = sym (first_found q Keeps blank_broadcast bs i (here-some _ i e)).any
 
-  pub any_none : Nowhere ≡ place_at (first_at q bs) → false ≡ any_of q bs
+  pub any_none : None ≡ place_at (first_at q bs) → false ≡ any_of q bs
   any_none e = sym (first-missed q Keeps bs (nowhere-none _ e)).any
 
-module _ (now : ℕ) (b : Broadcast) (o : Best) {c : CopyState} {d : ℕ} {x : Bool} (e : c ≡ b.copy) (p : d ≡ b.deadline) (g : x ≡ ready_by now c d) where
+module _ (now : ℕ) (b : Broadcast) (o : Option (ℕ × ℕ)) {c : CopyState} {d : ℕ} {x : Bool} (e : c ≡ b.copy) (p : d ≡ b.deadline) (g : x ≡ ready_by now c d) where
   readied : {y : Bool} → x ≡ y → ready now b ≡ y
   readied t = sym (g ∙ ap₂ (ready_by now) e p) ∙ t
 
-  pub best-ready : {h : BroadcastHead} {k : ℕ} {r : Best} → x ≡ true → h ≡ broadcast_head b → k ≡ rank_of h.priority → r ≡ better h.id k o
+  pub best-ready : {h : BroadcastHead} {k : ℕ} {r : Option (ℕ × ℕ)} → x ≡ true → h ≡ broadcast_head b → k ≡ rank_of h.priority → r ≡ better h.id k o
       → r ≡ best_head now (broadcast_head b) o
   best-ready {h} t q k f =
       rw (readied t)

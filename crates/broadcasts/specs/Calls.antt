@@ -1,6 +1,5 @@
 -- What each call on the lent table does: its answer, and the table and the buffer after it.
-use Rattle.std.specs.Prelude.{ℕ, ◌+◌, ◌≤◌, ◌<◌, ◌≡◌, List, get_or}
-use Rattle.std.proofs.Math.Option.{Option}
+use Rattle.std.specs.Prelude.{ℕ, ◌+◌, ◌≤◌, ◌<◌, ◌≡◌, List, get_or, Option}
 use Rattle.records.specs.Records.{blank_broadcast, broadcast_id, broadcast_entry}
 use Rattle.rows.specs.Lists.{lookup}
 use Rattle.rows.specs.Tables.{rows_of, live, Holds}
@@ -8,7 +7,7 @@ use Rattle.rows.specs.Moves.{Turn, at_first, has_id}
 use Rattle.rows.specs.Moves.{Same}
 use Rattle.tables.specs.Layouts.{broadcast_table}
 use Rattle.actions.specs.Calls.{Turned}
-use Rattle.casting.specs.Types.{Broadcast, Opt32, Refusal}
+use Rattle.casting.specs.Types.{Broadcast, Refusal}
 use Rattle.casting.specs.declared.Outcome.{Outcome}
 use Rattle.casting.specs.declared.Outcome.TheVariants.{Refused, Done}
 use Rattle.casting.specs.Rules.{refusal_of, lent_of, dequeue_turn}
@@ -31,6 +30,6 @@ pub record Answered (id : ℕ) (bar : Option Broadcast → Option Refusal) (f : 
   pub table : After id f ws n buf m ws' buf' r
 
 -- the broadcast with that id is lent to the radio
-pub record Dequeued (id : ℕ) (ws : List ℕ) (n : ℕ) (ws' : List ℕ) (r : Opt32) : Type 0 where
+pub record Dequeued (id : ℕ) (ws : List ℕ) (n : ℕ) (ws' : List ℕ) (r : Option ℕ) : Type 0 where
   pub answer : r ≡ lent_of (lookup broadcast_id id (live broadcast_table ws n))
   pub table : Holds broadcast_table ws' n (at_first (has_id broadcast_entry id) dequeue_turn (live broadcast_table ws n))

@@ -7,12 +7,10 @@ ghost use Rattle.rows.specs.Moves.{any_of};
 ghost use Rattle.tables.specs.Layouts.{broadcast_table, broadcast_head};
 ghost use Rattle.casting.specs.Rules.{best_head, best_of, may_stir, wake_of, is_transmitting, awaited_head};
 
-use casting::{Awaited, Best};
-use records::{CopyState, Opt64};
-use rows::Place;
+use records::CopyState;
 
 // The better of the broadcast at a place and the best of those with higher ids. One that is not ready is not read further.
-fn best_at(w: &[u64; 112], i: usize, clock: u64, best: Best) -> Best
+fn best_at(w: &[u64; 112], i: usize, clock: u64, best: Option<(u32, u8)>) -> Option<(u32, u8)>
     requires { i < 16 }
     ensures { result ≡ best_head clock (broadcast_head (get_or (rows_of broadcast_table w.now) i blank_broadcast)) best }
 {
@@ -27,11 +25,11 @@ fn best_at(w: &[u64; 112], i: usize, clock: u64, best: Best) -> Best
 }
 
 // The best queued one: of the highest priority, and then of the lowest id. One past its deadline is left for the tick.
-pub fn best_queued(w: &[u64; 112], n: usize, clock: u64) -> Best
+pub fn best_queued(w: &[u64; 112], n: usize, clock: u64) -> Option<(u32, u8)>
     requires { Held broadcast_table w.now n }
     ensures { result ≡ best_of clock (live broadcast_table w.now n) }
 {
-    let mut best = Best::NoBest;
+    let mut best = None;
     let mut i = n;
     while 0 < i {
         best = best_at(w, i - 1, clock, best);
@@ -74,11 +72,11 @@ pub fn any_stirs(w: &[u64; 112], n: usize, clock: u64) -> bool
 }
 
 // When a tick next has something to do.
-pub fn next_wake(w: &[u64; 112], n: usize) -> Opt64
+pub fn next_wake(w: &[u64; 112], n: usize) -> Option<u64>
     requires { Held broadcast_table w.now n }
     ensures { result ≡ wake_of (live broadcast_table w.now n) }
 {
-    let mut wake = Opt64::None64;
+    let mut wake = None;
     let mut i = n;
     while 0 < i {
         let h = tables::broadcast_rows::head(w, i - 1);
@@ -94,8 +92,8 @@ pub fn is_transmitting(w: &[u64; 112], n: usize, id: u32) -> bool
     ensures { result ≡ is_transmitting id (live broadcast_table w.now n) }
 {
     match tables::broadcast_rows::find(w, n, id) {
-        Place::Nowhere => false,
-        Place::Here(i) => {
+        None => false,
+        Some(i) => {
             let h = tables::broadcast_rows::head(w, i);
             let c = h.copy;
             repeating::turns::in_radio(c)
@@ -104,7 +102,7 @@ pub fn is_transmitting(w: &[u64; 112], n: usize, id: u32) -> bool
 }
 
 // The key whose quorum the broadcast at a place waits for.
-pub fn awaited_at(w: &[u64; 112], i: usize) -> Awaited
+pub fn awaited_at(w: &[u64; 112], i: usize) -> Option<QuorumKey>
     requires { i < 16 }
     ensures { result ≡ awaited_head (broadcast_head (get_or (rows_of broadcast_table w.now) i blank_broadcast)) }
 {

@@ -11,8 +11,7 @@ ghost use Rattle.casting.specs.Rules.{turn_b, admitted_of, keyed, report_turn, r
 ghost use Rattle.broadcasts.specs.Calls.{Plays, Answered, Dequeued};
 
 use casting::{Counts, Outcome, TurnB};
-use records::{Broadcast, Opt16, Opt32, Priority, QuorumKey, Refusal, Schedule, TxResult};
-use rows::{Inserted, Place};
+use records::{Broadcast, Priority, QuorumKey, Refusal, Schedule, TxResult};
 
 // The broadcast at place i, which is u, has this turn.
 fn play(
@@ -43,7 +42,7 @@ fn play(
             }
         }
         TurnB::SettlesB(again, v) => {
-            let next = actions::settle_again(told, m, e, again, v, Opt16::None16);
+            let next = actions::settle_again(told, m, e, again, v, None);
             tables::broadcast_rows::remove_at(w, n, i);
             Counts {
                 sends: n - 1,
@@ -64,7 +63,7 @@ pub fn enqueue(
     schedule: Schedule,
     clock: u64,
     handoff: u32,
-) -> Inserted
+) -> Option<usize>
     requires held { Held broadcast_table w.old n }
     requires clock_le_last_time { clock ≤ last_time }
     ensures { Entered broadcast_table w.old n (admitted_of id frame waiter priority schedule clock handoff) w.new result }
@@ -74,16 +73,16 @@ pub fn enqueue(
 }
 
 // The broadcast with that id, the best queued one, goes to the radio: answers its frame.
-pub fn dequeue(w: &mut [u64; 112], n: usize, id: u32) -> Opt32
+pub fn dequeue(w: &mut [u64; 112], n: usize, id: u32) -> Option<u32>
     requires { Held broadcast_table w.old n }
     ensures { Dequeued id w.old n w.new result }
 {
     match tables::broadcast_rows::find(w, n, id) {
-        Place::Nowhere => Opt32::None32,
-        Place::Here(i) => {
+        None => None,
+        Some(i) => {
             let u = tables::broadcast_rows::load(w, i);
             tables::broadcast_rows::store(w, n, i, repeating::turns::dequeued(u));
-            Opt32::Some32(u.frame)
+            Some(u.frame)
         }
     }
 }
@@ -106,8 +105,8 @@ pub fn report(
     ensures { Answered id (report_bar frame) (report_turn x clock delay) w.old n told.old m w.new told.new result }
 {
     match tables::broadcast_rows::find(w, n, id) {
-        Place::Nowhere => Outcome::Refused(Refusal::NoSuchSend),
-        Place::Here(i) => {
+        None => Outcome::Refused(Refusal::NoSuchSend),
+        Some(i) => {
             let u = tables::broadcast_rows::load(w, i);
             let c = u.copy;
             if !repeating::turns::in_radio(c) {
@@ -129,8 +128,8 @@ pub fn cancel(w: &mut [u64; 112], n: usize, told: &mut [u64; 560], m: usize, id:
     ensures { Answered id cancel_bar cancel_turn w.old n told.old m w.new told.new result }
 {
     match tables::broadcast_rows::find(w, n, id) {
-        Place::Nowhere => Outcome::Refused(Refusal::NoSuchSend),
-        Place::Here(i) => {
+        None => Outcome::Refused(Refusal::NoSuchSend),
+        Some(i) => {
             let u = tables::broadcast_rows::load(w, i);
             let c = u.copy;
             if repeating::turns::in_radio(c) {
@@ -143,18 +142,18 @@ pub fn cancel(w: &mut [u64; 112], n: usize, told: &mut [u64; 560], m: usize, id:
 }
 
 // Where the oldest broadcast that waits for that quorum stands.
-pub fn first_keyed(w: &[u64; 112], n: usize, key: QuorumKey) -> Place
+pub fn first_keyed(w: &[u64; 112], n: usize, key: QuorumKey) -> Option<usize>
     requires { Held broadcast_table w.now n }
     ensures { result ≡ place_at (first_at (keyed key) (live broadcast_table w.now n)) }
 {
     let mut i: usize = 0;
     while i < n {
         if casting::heads::is_keyed(tables::broadcast_rows::schedule(w, i), key) {
-            return Place::Here(i);
+            return Some(i);
         }
         i = i + 1;
     }
-    Place::Nowhere
+    None
 }
 
 // The quorum for that key was heard.
@@ -170,8 +169,8 @@ pub fn delivered(
     ensures { Turned broadcast_table broadcast_entry (keyed key) delivered_turn w.old n told.old m w.new result.sends told.new result.told }
 {
     match first_keyed(w, n, key) {
-        Place::Nowhere => Counts { sends: n, told: m },
-        Place::Here(i) => {
+        None => Counts { sends: n, told: m },
+        Some(i) => {
             let u = tables::broadcast_rows::load(w, i);
             let t = repeating::turns::delivered(u);
             play(w, n, told, m, i, u, t)

@@ -1,11 +1,11 @@
 -- The best queued broadcast is what it should be: specs/Claims. And a quorum goes to the oldest with its key. Assumes nothing.
+use Rattle.std.specs.Prelude.{Option, None, Some}
 use Prim.Native.Nat.{ℕ, suc, ◌≤◌, ◌<◌}
 use native.Mathlib.Omega.{arith}
 use mathlib.Core.Path.{◌≡◌, refl, sym, ap, ◌∙◌}
 use mathlib.Core.Bool.{Bool, true, false}
 use mathlib.Core.List.{List, [], ◌∷◌}
 use mathlib.Core.Logic.{inl, inr, ⊎_elim}
-use mathlib.Core.Option.{none, some}
 use lib.Dec.{leb}
 use borrow.Author.Tests.{eq-eqb, ne_eqb, leb-true, leb-false}
 use Rattle.records.specs.Pick.{pick}
@@ -15,7 +15,7 @@ use Rattle.records.proofs.Cases.{lt-or-le, never}
 use Rattle.rows.specs.Lists.{All, lookup, Rising}
 use Rattle.rows.specs.Moves.{first_of}
 use Rattle.rows.proofs.Promises.{lookup-past}
-use Rattle.casting.specs.Types.{QuorumKey, Broadcast, Best, NoBest, BestIs}
+use Rattle.casting.specs.Types.{QuorumKey, Broadcast}
 use Rattle.casting.specs.Rules.{ready, better, best_of, keyed}
 use Rattle.casting.specs.Claims.{Behind, Tops, Says, BestIsBest, NoneIfNone}
 
@@ -33,11 +33,11 @@ above lo (b ∷ bs) r = (r.0, all_map (λ (v : Broadcast) (h : suc b.id ≤ v.id
 
 module _ (now : ℕ) (b : Broadcast) (bs : List Broadcast) (r : Rising broadcast_id (suc b.id) bs) where
   -- an id that is found behind b is another
-  further : {v : Broadcast} (id : ℕ) → lookup broadcast_id id bs ≡ some v → lookup broadcast_id id (b ∷ bs) ≡ some v
+  further : {v : Broadcast} (id : ℕ) → lookup broadcast_id id bs ≡ Some v → lookup broadcast_id id (b ∷ bs) ≡ Some v
   further {v} id e =
       ⊎_elim
       (λ (l : id < suc b.id).
-      let n : lookup broadcast_id id bs ≡ none = lookup-past broadcast_id (suc b.id) id bs r l in
+      let n : lookup broadcast_id id bs ≡ None = lookup-past broadcast_id (suc b.id) id bs r l in
       let z : ◌≡◌ {A = ℕ} 0 1 = cc in
       absurd (omega arith))
       (λ (l : suc b.id ≤ id). rw (ne_eqb b.id id (λ q. omega arith)) e)
@@ -64,13 +64,13 @@ module _ (now : ℕ) (b : Broadcast) (bs : List Broadcast) (r : Rising broadcast
   unready : (v : Broadcast) → ready now v ≡ false → ready now v ≡ true → Behind b.id (rank_of b.priority) v
   unready v n t = never (sym n ∙ t)
 
-  turn : (x : Bool) → ready now b ≡ x → (o : Best) → Says now bs o → Says now (b ∷ bs) (pick x (better b.id (rank_of b.priority) o) o)
-  turn false e NoBest s = (e, s)
-  turn false e (BestIs id rank) s = past s (λ t. never (sym e ∙ t))
-  turn true e NoBest s = takes e (all_map unready bs s)
-  turn true e (BestIs id rank) s = go (leb rank (rank_of b.priority)) refl
+  turn : (x : Bool) → ready now b ≡ x → (o : Option (ℕ × ℕ)) → Says now bs o → Says now (b ∷ bs) (pick x (better b.id (rank_of b.priority) o) o)
+  turn false e None s = (e, s)
+  turn false e (Some (id, rank)) s = past s (λ t. never (sym e ∙ t))
+  turn true e None s = takes e (all_map unready bs s)
+  turn true e (Some (id, rank)) s = go (leb rank (rank_of b.priority)) refl
     where
-      go : (y : Bool) → leb rank (rank_of b.priority) ≡ y → Says now (b ∷ bs) (pick y (BestIs b.id (rank_of b.priority)) (BestIs id rank))
+      go : (y : Bool) → leb rank (rank_of b.priority) ≡ y → Says now (b ∷ bs) (pick y (Some (b.id, (rank_of b.priority))) (Some (id, rank)))
       go true l = takes e (all_both (weaker (leb-true rank (rank_of b.priority) l)) bs (above (suc b.id) bs r) s.first)
       go false l = past s (λ t. inl (leb-false rank (rank_of b.priority) l))
 
@@ -84,7 +84,7 @@ none-if-none now (b ∷ bs) a = ap (λ (x : Bool). pick x (better b.id (rank_of 
 
 -- ---- the broadcast that a quorum goes to is the oldest with that key
 
-pub delivers-oldest : (k : QuorumKey) (lo : ℕ) (bs : List Broadcast) (b : Broadcast) → Rising broadcast_id lo bs → first_of (keyed k) bs ≡ some b
+pub delivers-oldest : (k : QuorumKey) (lo : ℕ) (bs : List Broadcast) (b : Broadcast) → Rising broadcast_id lo bs → first_of (keyed k) bs ≡ Some b
     → All (λ (v : Broadcast). keyed k v ≡ true → b.id ≤ v.id) bs
 delivers-oldest k lo [] b r e = tt
 delivers-oldest k lo (x ∷ bs) b r e = go (keyed k x) refl e (delivers-oldest k (suc x.id) bs b r.1)
@@ -92,8 +92,8 @@ delivers-oldest k lo (x ∷ bs) b r e = go (keyed k x) refl e (delivers-oldest k
     later : x ≡ b → (v : Broadcast) → suc x.id ≤ v.id → keyed k v ≡ true → b.id ≤ v.id
     later i v l t = let j : x.id ≡ b.id = ap broadcast_id i in omega arith
 
-    go : (y : Bool) → keyed k x ≡ y → pick y (some x) (first_of (keyed k) bs) ≡ some b
-        → (first_of (keyed k) bs ≡ some b → All (λ (v : Broadcast). keyed k v ≡ true → b.id ≤ v.id) bs)
+    go : (y : Bool) → keyed k x ≡ y → pick y (Some x) (first_of (keyed k) bs) ≡ Some b
+        → (first_of (keyed k) bs ≡ Some b → All (λ (v : Broadcast). keyed k v ≡ true → b.id ≤ v.id) bs)
         → (keyed k x ≡ true → b.id ≤ x.id) × All (λ (v : Broadcast). keyed k v ≡ true → b.id ≤ v.id) bs
     go true q f ih =
         let i : x ≡ b = cc in

@@ -1,11 +1,12 @@
 -- The rules keep every broadcast sane (specs/Claims), so that two verdicts are never asked: the end of a once that was handed off, and the last error of
 -- one that has none. Assumes nothing.
+use Rattle.std.specs.Prelude.{Option, None, Some}
 use Prim.Native.Nat.{ℕ, ◌+◌, ◌-◌}
 use mathlib.Core.Path.{◌≡◌, refl, sym, ◌∙◌}
 use mathlib.Core.Bool.{Bool, true, false, not, ◌&&◌, ◌||◌}
 use lib.Dec.{leb, eqb}
 use Rattle.records.proofs.Cases.{either, never}
-use Rattle.casting.specs.Types.{Opt16, None16, Some16, Priority, Schedule, Once, PassiveAck, FixedInterval, CopyState, Idle, CopyQueued, CopyTransmitting, Broadcast, TxResult, Sent, Failed}
+use Rattle.casting.specs.Types.{Priority, Schedule, Once, PassiveAck, FixedInterval, CopyState, Idle, CopyQueued, CopyTransmitting, Broadcast, TxResult, Sent, Failed}
 use Rattle.casting.specs.Rules.{remade, admitted_of, no_copies, in_radio, dequeue_turn, repeat_turn, report_by, report_turn, delivered_turn, lapse_turn, due_turn, idle_turn, tick_by, tick_turn}
 use Rattle.casting.specs.Claims.{is_once, has_error, Sane, Leaves}
 
@@ -62,12 +63,12 @@ module _ (b : Broadcast) (sane : Sane b) where
         go CopyTransmitting = sane
 
   -- where no copy is left and none was handed off there is a code to settle with
-  pub error-there : b.copy ≡ Idle → no_copies b.schedule ≡ true → b.handed_off ≡ false → (code : ℕ) × (b.last_error ≡ Some16 code)
+  pub error-there : b.copy ≡ Idle → no_copies b.schedule ≡ true → b.handed_off ≡ false → (code : ℕ) × (b.last_error ≡ Some code)
   error-there c n h = go b.last_error refl (sane.error (rw c) n h)
     where
-      go : (e : Opt16) → b.last_error ≡ e → has_error e ≡ true → (code : ℕ) × (b.last_error ≡ Some16 code)
-      go None16 p q = never q
-      go (Some16 code) p q = (code, p)
+      go : (e : Option ℕ) → b.last_error ≡ e → has_error e ≡ true → (code : ℕ) × (b.last_error ≡ Some code)
+      go None p q = never q
+      go (Some code) p q = (code, p)
 
   -- what was handed off is no once
   pub handed-repeats : b.handed_off ≡ true → is_once b.schedule ≡ false

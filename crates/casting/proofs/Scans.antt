@@ -1,4 +1,5 @@
 -- What the code's tests of heads say of the broadcasts that they were read from. Assumes nothing.
+use Rattle.std.specs.Prelude.{Some}
 use Prim.Native.Nat.{ℕ, ◌+◌, ◌≤◌, ◌<◌}
 use native.Mathlib.Omega.{arith}
 use mathlib.Core.Path.{◌≡◌, sym, ap, ◌∙◌}
@@ -6,7 +7,6 @@ use mathlib.Core.Bool.{Bool}
 use mathlib.Core.List.{List, []}
 use lib.ListN.{length, drop, get_or}
 use Rattle.records.specs.Records.{blank_broadcast}
-use Rattle.rows.specs.declared.Place.TheVariants.{Here}
 use Rattle.rows.specs.Lists.{place_at}
 use Rattle.rows.specs.Tables.{rows_of, live, Held}
 use Rattle.rows.specs.Moves.{first_at}
@@ -20,7 +20,7 @@ abbrev pub row_at : List ℕ → ℕ → Broadcast
 row_at ws i = get_or (rows_of broadcast_table ws) i blank_broadcast
 
 -- what was found by a scan is live
-pub scanned-lt : {ws : List ℕ} {n i : ℕ} (h : Held broadcast_table ws n) (q : Broadcast → Bool) → Here i ≡ place_at (first_at q (live broadcast_table ws n)) → i < n
+pub scanned-lt : {ws : List ℕ} {n i : ℕ} (h : Held broadcast_table ws n) (q : Broadcast → Bool) → Some i ≡ place_at (first_at q (live broadcast_table ws n)) → i < n
 scanned-lt {ws} {n} {i} h q e = omega (arith, (first_found q Keeps blank_broadcast (live broadcast_table ws n) i (here-some _ i e)).there, held-length h)
 
 pub key-tested : (b : Broadcast) {s : Schedule} {r x : Bool} → s ≡ b.schedule → (k : QuorumKey) → r ≡ keyed_by k s → r ≡ x → keyed k b ≡ x

@@ -1,4 +1,5 @@
 -- The next wake is when a tick next has something to do: specs/Claims. Assumes nothing.
+use Rattle.std.specs.Prelude.{Option, None, Some}
 use Prim.Native.Nat.{ℕ, ◌≤◌, ◌<◌}
 use native.Mathlib.Omega.{arith}
 use mathlib.Core.Path.{◌≡◌, refl, sym, ap, ap₂, ◌∙◌}
@@ -13,7 +14,7 @@ use Rattle.records.specs.declared.Action.{Action}
 use Rattle.records.proofs.Cases.{never}
 use Rattle.rows.specs.Moves.{Turn, kept, told, each, each_told, any_of}
 use Rattle.tables.specs.Layouts.{broadcast_head}
-use Rattle.casting.specs.Types.{Opt64, None64, Some64, CopyState, Idle, CopyQueued, CopyTransmitting, Broadcast}
+use Rattle.casting.specs.Types.{CopyState, Idle, CopyQueued, CopyTransmitting, Broadcast}
 use Rattle.casting.specs.Rules.{tick_turn, attempt_by, stirs_by, wake_by, wake_of}
 use Rattle.casting.specs.Claims.{stirring, due_by, WakeIsDue, QuietBefore}
 use Rattle.casting.proofs.Ticks.{quiet}
@@ -23,9 +24,9 @@ or-not true = refl
 or-not false = refl
 
 module _ (now : ℕ) where
-  sooner-due : (a : ℕ) (o : Opt64) → pick (leb a now) true (due_by now o) ≡ due_by now (sooner a o)
-  sooner-due a None64 = sym (or-not (leb a now))
-  sooner-due a (Some64 u) = go (leb a u) refl (leb a now) refl
+  sooner-due : (a : ℕ) (o : Option ℕ) → pick (leb a now) true (due_by now o) ≡ due_by now (sooner a o)
+  sooner-due a None = sym (or-not (leb a now))
+  sooner-due a (Some u) = go (leb a u) refl (leb a now) refl
     where
       go : (x : Bool) → leb a u ≡ x → (y : Bool) → leb a now ≡ y → pick y true (leb u now) ≡ leb (pick x a u) now
       go true e true f = sym f
@@ -33,7 +34,7 @@ module _ (now : ℕ) where
       go false e true f = let l : u ≤ now = omega (arith, leb-false a u e, leb-true a now f) in sym (le-leb u now l)
       go false e false f = refl
 
-  wake-by : (b : Broadcast) (c : CopyState) (o : Opt64) → pick (stirs_by now (broadcast_head b) c) true (due_by now o) ≡ due_by now (wake_by c (broadcast_head b) o)
+  wake-by : (b : Broadcast) (c : CopyState) (o : Option ℕ) → pick (stirs_by now (broadcast_head b) c) true (due_by now o) ≡ due_by now (wake_by c (broadcast_head b) o)
   wake-by b Idle o = sooner-due (attempt_by b.deadline b.schedule) o
   wake-by b CopyQueued o = sooner-due b.deadline o
   wake-by b CopyTransmitting o = refl

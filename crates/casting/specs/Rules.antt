@@ -1,6 +1,5 @@
 -- 01's rules of broadcasts, on one broadcast and on the list of them.
-use Rattle.std.specs.Prelude.{ℕ, ◌+◌, ◌-◌, Bool, true, false, not, ◌&&◌, ◌||◌, List, [], ◌∷◌, ltb, leb, eqb}
-use Rattle.std.proofs.Math.Option.{Option, none, some}
+use Rattle.std.specs.Prelude.{ℕ, ◌+◌, ◌-◌, Bool, true, false, not, ◌&&◌, ◌||◌, List, [], ◌∷◌, ltb, leb, eqb, Option, None, Some}
 use Rattle.records.specs.Pick.{pick}
 use Rattle.records.specs.Priorities.{rank_of}
 use Rattle.records.specs.Records.{broadcast_id}
@@ -10,17 +9,17 @@ use Rattle.rows.specs.Lists.{fold, lookup}
 use Rattle.rows.specs.Moves.{Turn}
 use Rattle.rows.specs.Moves.Turn.{Keeps, HandsOff, Settles}
 use Rattle.tables.specs.Layouts.{broadcast_head}
-use Rattle.casting.specs.Types.{Opt16, None16, Some16, Opt32, None32, Some32, Opt64, None64, Priority, QuorumKey, Schedule, Once, PassiveAck, FixedInterval, CopyState, Idle, CopyQueued, CopyTransmitting, Broadcast, TxResult, Sent, Failed, HandoffTimeout, BroadcastQuorumNotReached, Cancelled, Verdict, Success, Failure, Code, Refusal, NoSuchSend, InTheRadio, NotInTheRadio, OtherFrame, BroadcastHead, TurnB, KeepsB, HandsOffB, SettlesB, Outcome, Refused, Done, Best, NoBest, BestIs, Awaited, NotAwaited, Awaits}
+use Rattle.casting.specs.Types.{Priority, QuorumKey, Schedule, Once, PassiveAck, FixedInterval, CopyState, Idle, CopyQueued, CopyTransmitting, Broadcast, TxResult, Sent, Failed, HandoffTimeout, BroadcastQuorumNotReached, Cancelled, Verdict, Success, Failure, Code, Refusal, NoSuchSend, InTheRadio, NotInTheRadio, OtherFrame, BroadcastHead, TurnB, KeepsB, HandsOffB, SettlesB, Outcome, Refused, Done}
 
 -- the turn that an answer says: a broadcast never has a failed hop
 abbrev pub turn_b : TurnB → Turn Broadcast
 turn_b (KeepsB b) = Keeps b
 turn_b (HandsOffB b) = HandsOff b
-turn_b (SettlesB again v) = Settles again v None16
+turn_b (SettlesB again v) = Settles again v None
 
 -- ---- on one broadcast
 
-abbrev pub remade : Broadcast → Schedule → CopyState → Bool → Bool → Opt16 → Broadcast
+abbrev pub remade : Broadcast → Schedule → CopyState → Bool → Bool → Option ℕ → Broadcast
 remade b s c handed heard last =
     record {
       id = b.id;
@@ -53,7 +52,7 @@ admitted_of id frame waiter priority schedule now handoff =
       copy = first_copy schedule;
       handed_off = false;
       quorum_heard = false;
-      last_error = None16;
+      last_error = None;
       deadline = now + handoff;
     }
 
@@ -82,7 +81,7 @@ dequeue_turn b = Keeps (lent b)
 
 -- a settled one repeats its handoff first if it was handed off
 abbrev pub cancel_turn : Broadcast → Turn Broadcast
-cancel_turn b = Settles b.handed_off (Failure Cancelled) None16
+cancel_turn b = Settles b.handed_off (Failure Cancelled) None
 
 abbrev pub result_verdict : TxResult → Verdict
 result_verdict Sent = Success
@@ -92,16 +91,16 @@ result_verdict (Failed c) = Code c
 -- quorum heard and a copy handed off it is over
 abbrev pub repeat_turn : Broadcast → Schedule → TxResult → Turn Broadcast
 repeat_turn b s Sent =
-    pick b.quorum_heard (Settles true Success None16)
+    pick b.quorum_heard (Settles true Success None)
     (pick b.handed_off (Keeps (remade b s Idle true b.quorum_heard b.last_error))
     (HandsOff (remade b s Idle true b.quorum_heard b.last_error)))
 repeat_turn b s (Failed c) =
-    pick (b.quorum_heard && b.handed_off) (Settles true Success None16)
-    (Keeps (remade b s Idle b.handed_off b.quorum_heard (Some16 c)))
+    pick (b.quorum_heard && b.handed_off) (Settles true Success None)
+    (Keeps (remade b s Idle b.handed_off b.quorum_heard (Some c)))
 
 -- once is over; the others go on, the next attempt at now + the report's delay, or + its own interval
 abbrev pub report_by : Broadcast → TxResult → ℕ → ℕ → Schedule → Turn Broadcast
-report_by b x now delay Once = Settles b.handed_off (result_verdict x) None16
+report_by b x now delay Once = Settles b.handed_off (result_verdict x) None
 report_by b x now delay (PassiveAck k n t) = repeat_turn b (PassiveAck k n (now + delay)) x
 report_by b x now delay (FixedInterval i n t) = repeat_turn b (FixedInterval i n (now + i)) x
 
@@ -112,7 +111,7 @@ report_turn x now delay b = report_by b x now delay b.schedule
 abbrev pub delivered_turn : Broadcast → Turn Broadcast
 delivered_turn b =
     pick (in_radio b.copy || not b.handed_off) (Keeps (remade b b.schedule b.copy b.handed_off true b.last_error))
-    (Settles true Success None16)
+    (Settles true Success None)
 
 -- the verdict of one that was handed off and has no more time or copies. Once is over at its report, so it is never asked (the Rust: unreachable)
 abbrev pub over_verdict : Schedule → Verdict
@@ -120,20 +119,20 @@ over_verdict Once = Failure HandoffTimeout
 over_verdict (PassiveAck k n t) = Failure BroadcastQuorumNotReached
 over_verdict (FixedInterval i n t) = Success
 
--- the last radio error. A copy that was spent and not handed off left one, so none is never asked (the Rust: unwrap)
-abbrev pub last_verdict : Opt16 → Verdict
-last_verdict None16 = Code 0
-last_verdict (Some16 c) = Code c
+-- the last radio error. A copy that was spent and not handed off left one, so None is never asked (the Rust: unwrap)
+abbrev pub last_verdict : Option ℕ → Verdict
+last_verdict None = Code 0
+last_verdict (Some c) = Code c
 
 -- no copy is left
 abbrev pub over_turn : Broadcast → Turn Broadcast
-over_turn b = pick b.handed_off (Settles true (over_verdict b.schedule) None16) (Settles false (last_verdict b.last_error) None16)
+over_turn b = pick b.handed_off (Settles true (over_verdict b.schedule) None) (Settles false (last_verdict b.last_error) None)
 
 -- not over: the deadline is tested
 abbrev pub lapse_turn : ℕ → Broadcast → Turn Broadcast
 lapse_turn now b =
     pick (leb b.deadline now)
-    (pick b.handed_off (Settles true (over_verdict b.schedule) None16) (Settles false (Failure HandoffTimeout) None16))
+    (pick b.handed_off (Settles true (over_verdict b.schedule) None) (Settles false (Failure HandoffTimeout) None))
     (Keeps b)
 
 -- an idle one with n copies left, the next at t, whose schedule with one less is s
@@ -165,12 +164,12 @@ attempt_by d (PassiveAck k n t) = pick (leb t d) t d
 attempt_by d (FixedInterval i n t) = pick (leb t d) t d
 
 -- what it wakes for: its deadline, or an idle one's next attempt if sooner; nothing for one in the radio
-abbrev pub wake_by : CopyState → BroadcastHead → Opt64 → Opt64
+abbrev pub wake_by : CopyState → BroadcastHead → Option ℕ → Option ℕ
 wake_by Idle h o = sooner (attempt_by h.deadline h.schedule) o
 wake_by CopyQueued h o = sooner h.deadline o
 wake_by CopyTransmitting h o = o
 
-abbrev pub wake_head : BroadcastHead → Opt64 → Opt64
+abbrev pub wake_head : BroadcastHead → Option ℕ → Option ℕ
 wake_head h o = wake_by h.copy h o
 
 -- a tick finds something to do
@@ -205,11 +204,11 @@ abbrev pub ready : ℕ → Broadcast → Bool
 ready now b = ready_by now b.copy b.deadline
 
 -- the better of one with this id and rank, and the best of those behind it: these have higher ids
-abbrev pub better : ℕ → ℕ → Best → Best
-better id rank NoBest = BestIs id rank
-better id rank (BestIs j s) = pick (leb s rank) (BestIs id rank) (BestIs j s)
+abbrev pub better : ℕ → ℕ → Option (ℕ × ℕ) → Option (ℕ × ℕ)
+better id rank None = Some (id, rank)
+better id rank (Some (j, s)) = pick (leb s rank) (Some (id, rank)) (Some (j, s))
 
-abbrev pub best_head : ℕ → BroadcastHead → Best → Best
+abbrev pub best_head : ℕ → BroadcastHead → Option (ℕ × ℕ) → Option (ℕ × ℕ)
 best_head now h o = pick (ready_by now h.copy h.deadline) (better h.id (rank_of h.priority) o) o
 
 -- it is repeated until the quorum for that key is heard
@@ -222,34 +221,34 @@ abbrev pub keyed : QuorumKey → Broadcast → Bool
 keyed k b = keyed_by k b.schedule
 
 -- the key whose quorum it waits for, until it is heard
-abbrev pub awaited_by : Bool → Schedule → Awaited
-awaited_by heard Once = NotAwaited
-awaited_by heard (PassiveAck k n t) = pick heard NotAwaited (Awaits k)
-awaited_by heard (FixedInterval i n t) = NotAwaited
+abbrev pub awaited_by : Bool → Schedule → Option QuorumKey
+awaited_by heard Once = None
+awaited_by heard (PassiveAck k n t) = pick heard None (Some k)
+awaited_by heard (FixedInterval i n t) = None
 
-abbrev pub awaited_head : BroadcastHead → Awaited
+abbrev pub awaited_head : BroadcastHead → Option QuorumKey
 awaited_head h = awaited_by h.quorum_heard h.schedule
 
 -- ---- on the list
 
 -- the best queued one
-abbrev pub best_step : ℕ → Broadcast → Best → Best
+abbrev pub best_step : ℕ → Broadcast → Option (ℕ × ℕ) → Option (ℕ × ℕ)
 best_step now b o = best_head now (broadcast_head b) o
 
-abbrev pub best_of : ℕ → List Broadcast → Best
-best_of now bs = fold (best_step now) NoBest bs
+abbrev pub best_of : ℕ → List Broadcast → Option (ℕ × ℕ)
+best_of now bs = fold (best_step now) None bs
 
 -- next wake
-abbrev pub wake_step : Broadcast → Opt64 → Opt64
+abbrev pub wake_step : Broadcast → Option ℕ → Option ℕ
 wake_step b o = wake_head (broadcast_head b) o
 
-abbrev pub wake_of : List Broadcast → Opt64
-wake_of bs = fold wake_step None64 bs
+abbrev pub wake_of : List Broadcast → Option ℕ
+wake_of bs = fold wake_step None bs
 
 -- the keys, by id, whose quorum is awaited
-abbrev pub listed : Awaited → List QuorumKey → List QuorumKey
-listed NotAwaited ks = ks
-listed (Awaits k) ks = k ∷ ks
+abbrev pub listed : Option QuorumKey → List QuorumKey → List QuorumKey
+listed None ks = ks
+listed (Some k) ks = k ∷ ks
 
 abbrev pub awaited_of : List Broadcast → List QuorumKey
 awaited_of [] = []
@@ -257,27 +256,27 @@ awaited_of (b ∷ bs) = listed (awaited_head (broadcast_head b)) (awaited_of bs)
 
 -- the broadcast is in the radio
 abbrev pub in_radio_by : Option Broadcast → Bool
-in_radio_by none = false
-in_radio_by (some b) = in_radio b.copy
+in_radio_by None = false
+in_radio_by (Some b) = in_radio b.copy
 
 abbrev pub is_transmitting : ℕ → List Broadcast → Bool
 is_transmitting id bs = in_radio_by (lookup broadcast_id id bs)
 
 -- why a report is refused: no such broadcast, or not in the radio, or another frame
 abbrev pub report_bar : ℕ → Option Broadcast → Option Refusal
-report_bar frame none = some NoSuchSend
-report_bar frame (some b) = pick (in_radio b.copy) (pick (eqb b.frame frame) none (some OtherFrame)) (some NotInTheRadio)
+report_bar frame None = Some NoSuchSend
+report_bar frame (Some b) = pick (in_radio b.copy) (pick (eqb b.frame frame) None (Some OtherFrame)) (Some NotInTheRadio)
 
 -- why a cancel is refused: no such broadcast, or in the radio
 abbrev pub cancel_bar : Option Broadcast → Option Refusal
-cancel_bar none = some NoSuchSend
-cancel_bar (some b) = pick (in_radio b.copy) (some InTheRadio) none
+cancel_bar None = Some NoSuchSend
+cancel_bar (Some b) = pick (in_radio b.copy) (Some InTheRadio) None
 
 abbrev pub refusal_of : Outcome → Option Refusal
-refusal_of (Refused x) = some x
-refusal_of (Done c) = none
+refusal_of (Refused x) = Some x
+refusal_of (Done c) = None
 
 -- the frame that is lent to the radio
-abbrev pub lent_of : Option Broadcast → Opt32
-lent_of none = None32
-lent_of (some b) = Some32 b.frame
+abbrev pub lent_of : Option Broadcast → Option ℕ
+lent_of None = None
+lent_of (Some b) = Some b.frame

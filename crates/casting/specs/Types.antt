@@ -1,10 +1,4 @@
 -- The declared types that the rules of broadcasts speak of, under one name.
-pub use Rattle.records.specs.declared.Opt16.{Opt16}
-pub use Rattle.records.specs.declared.Opt16.TheVariants.{None16, Some16}
-pub use Rattle.records.specs.declared.Opt32.{Opt32}
-pub use Rattle.records.specs.declared.Opt32.TheVariants.{None32, Some32}
-pub use Rattle.records.specs.declared.Opt64.{Opt64}
-pub use Rattle.records.specs.declared.Opt64.TheVariants.{None64, Some64}
 pub use Rattle.records.specs.declared.Priority.{Priority}
 pub use Rattle.records.specs.declared.QuorumKey.{QuorumKey}
 pub use Rattle.records.specs.declared.Schedule.{Schedule}
@@ -25,7 +19,3 @@ pub use Rattle.casting.specs.declared.TurnB.TheVariants.{KeepsB, HandsOffB, Sett
 pub use Rattle.casting.specs.declared.Counts.{Counts}
 pub use Rattle.casting.specs.declared.Outcome.{Outcome}
 pub use Rattle.casting.specs.declared.Outcome.TheVariants.{Refused, Done}
-pub use Rattle.casting.specs.declared.Best.{Best}
-pub use Rattle.casting.specs.declared.Best.TheVariants.{NoBest, BestIs}
-pub use Rattle.casting.specs.declared.Awaited.{Awaited}
-pub use Rattle.casting.specs.declared.Awaited.TheVariants.{NotAwaited, Awaits}

@@ -2,8 +2,7 @@
 ghost use Rattle.std.specs.Prelude.{◌≡◌};
 ghost use Rattle.casting.specs.Rules.{attempt_by, wake_head, stirs_head, attempt_due, ready_by, better, keyed_by, awaited_head};
 
-use crate::{Awaited, Best};
-use records::{CopyState, Opt64, QuorumKey, Schedule};
+use records::{CopyState, QuorumKey, Schedule};
 use tables::broadcast_rows::BroadcastHead;
 
 fn sooner_attempt(deadline: u64, s: Schedule) -> u64
@@ -35,7 +34,7 @@ fn sooner_attempt(deadline: u64, s: Schedule) -> u64
 }
 
 // The sooner of what it wakes for and another time.
-pub fn wake(h: BroadcastHead, o: Opt64) -> Opt64
+pub fn wake(h: BroadcastHead, o: Option<u64>) -> Option<u64>
     ensures { result ≡ wake_head h o }
 {
     let c = h.copy;
@@ -96,16 +95,16 @@ pub fn is_ready(c: CopyState, deadline: u64, clock: u64) -> bool
 }
 
 // The better of one with this id and rank, and the best of those with higher ids.
-pub fn better_of(id: u32, rank: u8, o: Best) -> Best
+pub fn better_of(id: u32, rank: u8, o: Option<(u32, u8)>) -> Option<(u32, u8)>
     ensures { result ≡ better id rank o }
 {
     match o {
-        Best::NoBest => Best::BestIs(id, rank),
-        Best::BestIs(j, s) => {
+        None => Some((id, rank)),
+        Some((j, s)) => {
             if s <= rank {
-                return Best::BestIs(id, rank);
+                return Some((id, rank));
             }
-            Best::BestIs(j, s)
+            Some((j, s))
         }
     }
 }
@@ -130,26 +129,26 @@ pub fn is_keyed(s: Schedule, k: QuorumKey) -> bool
 }
 
 // The key whose quorum it waits for.
-pub fn awaited(h: BroadcastHead) -> Awaited
+pub fn awaited(h: BroadcastHead) -> Option<QuorumKey>
     ensures { result ≡ awaited_head h }
 {
     let s = h.schedule;
     match s {
-        Schedule::Once => Awaited::NotAwaited,
+        Schedule::Once => None,
         Schedule::PassiveAck {
             key,
             copies_remaining: _,
             next_attempt: _,
         } => {
             if h.quorum_heard {
-                return Awaited::NotAwaited;
+                return None;
             }
-            Awaited::Awaits(key)
+            Some(key)
         }
         Schedule::FixedInterval {
             interval: _,
             copies_remaining: _,
             next_attempt: _,
-        } => Awaited::NotAwaited,
+        } => None,
     }
 }

@@ -28,16 +28,3 @@ pub enum Outcome {
     Done(Counts),
 }
 
-// The best queued broadcast: its id, and the rank of its priority.
-#[derive(Clone, Copy)]
-pub enum Best {
-    NoBest,
-    BestIs(u32, u8),
-}
-
-// The key whose quorum a broadcast waits for.
-#[derive(Clone, Copy)]
-pub enum Awaited {
-    NotAwaited,
-    Awaits(QuorumKey),
-}

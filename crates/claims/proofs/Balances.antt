@@ -1,11 +1,11 @@
 -- Every call balances: under any test on id, waiter and frame, what was live and what is issued is what stays live, what is settled and what is listed.
 -- And an id that is issued is the next one, which is then one higher. Assumes sound tables.
+use Rattle.std.specs.Prelude.{Option, None, Some}
 use Prim.Native.Nat.{ℕ, suc, ◌+◌, ◌-◌, ◌≤◌}
 use native.Mathlib.Omega.{arith}
 use mathlib.Core.Path.{◌≡◌, refl, ap}
 use mathlib.Core.Bool.{Bool, true, false, ◌||◌}
 use mathlib.Core.List.{List, [], ◌∷◌, ◌++◌, map}
-use mathlib.Core.Option.{Option, none, some}
 use lib.ListN.{length, take}
 use lib.Dec.{ltb, leb, eqb}
 use borrow.Author.Tests.{eq-eqb}
@@ -19,7 +19,6 @@ use Rattle.rows.specs.Lists.{insert_by, lookup}
 use Rattle.rows.specs.Moves.{Turn, at_first, first_of, any_of, count, each_told, at_first_told, has_id, Same, settled_of}
 use Rattle.rows.specs.Moves.Turn.{Keeps}
 use Rattle.rows.proofs.Promises.{entries, count-append, count_map, settled-append, first_count, insert-count}
-use Rattle.casting.specs.declared.Best as cast
 use Rattle.casting.specs.Rules as bro
 use Rattle.casting.proofs.Entries as bros
 use Rattle.sending.specs.Rules as uni
@@ -29,7 +28,7 @@ use Rattle.sending.proofs.Claims as unc
 use Rattle.sending.proofs.Turns.{cancel-same, ack-same, report-same}
 use Rattle.unrouted.specs.Rules as unr
 use Rattle.unrouted.proofs.Exact as unx
-use Rattle.model.specs.Types.{Opt32, None32, Some32, Unicast, Unrouted, Broadcast, Settings, Refusal, TimeTooLate, IdsExhausted, NoCopies, NoPlace, MapMalformed, Best, NoneReady, Ready, Loan, NoLoan, Lent, NoBest, BestIs, Lapsed, Bound, Retry, NotHeld, Declined, Granted, TxResult}
+use Rattle.model.specs.Types.{Unicast, Unrouted, Broadcast, Settings, Refusal, TimeTooLate, IdsExhausted, NoCopies, NoPlace, MapMalformed, Lapsed, Bound, Retry, NotHeld, Declined, Granted, TxResult}
 use Rattle.model.specs.declared.NewUnicast.{NewUnicast}
 use Rattle.model.specs.declared.NewUnrouted.{NewUnrouted}
 use Rattle.model.specs.declared.NewBroadcast.{NewBroadcast}
@@ -49,6 +48,7 @@ use Rattle.model.specs.Steps.Reply.{Says, Matches}
 use Rattle.model.proofs.Kepts.{only-count, insert-fewer}
 use Rattle.model.proofs.Routings.{route-meets}
 use Rattle.claims.specs.Ledger.{id_said, id_in, issued_as, issued_by, settled_by, listed_in, listed_by, live_in, ids_from, EachCallBalances}
+use Rattle.records.specs.declared.Priority.{Priority}
 
 -- the sends of the three tables with a test
 abbrev pub in_all : (Entry → Bool) → Model → ℕ
@@ -72,7 +72,7 @@ pub record Lawful (m : Model) (o : Outcome) (new : List Entry) : Type 0 where
   pub ids : map (λ (e : Entry). e.id) new ≡ ids_from m.next (length new)
   pub next : o.model.next ≡ m.next + length new
 
--- an effect that issues none
+-- an effect that issues None
 record Even (m : Model) (e : Effect) : Type 0 where
   pub sum : (p : Entry → Bool) → in_all p m ≡ in_all p e.model + count p (settled_of e.actions)
   pub said : id_said e.answer ≡ []
@@ -122,8 +122,8 @@ module _ {m : Model} (s : SoundModel m) where
   still a e = record { sum = λ p. omega arith; said = e; next = refl }
 
   unless-even : (o : Option Refusal) (e : Effect) → Even m e → Even m (unless m o e)
-  unless-even none e h = h
-  unless-even (some x) e h = still _ refl
+  unless-even None e h = h
+  unless-even (Some x) e h = still _ refl
 
   turn-unicast : (q : Unicast → Bool) (f : Unicast → Turn Unicast) → ((u : Unicast) → Same unicast_entry u (f u)) → Even m (turn_unicast m q f)
   turn-unicast q f h = record { sum = λ p. omega (arith, first_count unicast_entry p q f h m.unicasts); said = refl; next = refl }
@@ -158,7 +158,7 @@ module _ {m : Model} (s : SoundModel m) where
   none-broadcast : count (has_id broadcast_entry m.next) m.broadcasts ≡ 0
   none-broadcast = omega (arith, s.below m.next (omega arith))
 
-  enqueues : (set : Settings) (u : NewUnicast) (copy : Opt32) (now : ℕ) → Enters u.waiter u.frame (enqueue_of m set u copy now)
+  enqueues : (set : Settings) (u : NewUnicast) (copy : Option ℕ) (now : ℕ) → Enters u.waiter u.frame (enqueue_of m set u copy now)
   enqueues set u copy now =
       admits u.waiter u.frame (late now) false (leb unicast_room (length m.unicasts)) _ refl
       (λ p. omega (arith, insert-count unicast_entry p (new_unicast m set u copy now) m.unicasts none-unicast))
@@ -179,9 +179,9 @@ module _ {m : Model} (s : SoundModel m) where
   lends-unicast i =
       record { sum = λ p. omega (arith, unc.dequeue-count p m.unicasts i); said = go (unis.loan_of i m.unicasts); next = refl }
     where
-      go : (l : Loan) → id_said (flight_of i l) ≡ []
-      go NoLoan = refl
-      go (Lent f h n) = refl
+      go : (l : Option (ℕ × (ℕ × Bool))) → id_said (flight_of i l) ≡ []
+      go None = refl
+      go (Some (f, (h, n))) = refl
 
   lends-broadcast : (i : ℕ) → Even m (lend_broadcast m i)
   lends-broadcast i =
@@ -191,18 +191,18 @@ module _ {m : Model} (s : SoundModel m) where
         next = refl;
       }
     where
-      go : (o : Opt32) → id_said (cast_of i o) ≡ []
-      go None32 = refl
-      go (Some32 f) = refl
+      go : (o : Option ℕ) → id_said (cast_of i o) ≡ []
+      go None = refl
+      go (Some f) = refl
 
   dequeues : (now : ℕ) → Even m (dequeue_of m now)
   dequeues now = either (Even m) (late now) (still _ refl) (go (unis.best_of now m.unicasts) (bro.best_of now m.broadcasts))
     where
-      go : (a : Best) (b : cast.Best) → Even m (lend_best m a b)
-      go NoneReady NoBest = still _ refl
-      go NoneReady (BestIs j q) = lends-broadcast j
-      go (Ready i p) NoBest = lends-unicast i
-      go (Ready i p) (BestIs j q) = either (Even m) (unicast_first i (rank_of p) j q) (lends-unicast i) (lends-broadcast j)
+      go : (a : Option (ℕ × Priority)) (b : Option (ℕ × ℕ)) → Even m (lend_best m a b)
+      go None None = still _ refl
+      go None (Some (j, q)) = lends-broadcast j
+      go (Some (i, p)) None = lends-unicast i
+      go (Some (i, p)) (Some (j, q)) = either (Even m) (unicast_first i (rank_of p) j q) (lends-unicast i) (lends-broadcast j)
 
   reports : (from : Lender) (id frame : ℕ) (x : TxResult) (now delay : ℕ) → Even m (transmitted_of m from id frame x now delay)
   reports from id frame x now delay = either (Even m) (late now) (still _ refl) (go from)
@@ -319,8 +319,8 @@ module _ {m : Model} (s : SoundModel m) where
   matches false xs ys = asked _ refl refl
 
   pub lawful : (c : Call) → Lawful m (step_of m c) (issued_by c (step_of m c))
-  lawful (EnqueueUnicast set u now) = enqueues set u None32 now
-  lawful (EnqueueCopy set broadcast u now) = enqueues set u (Some32 broadcast) now
+  lawful (EnqueueUnicast set u now) = enqueues set u None now
+  lawful (EnqueueCopy set broadcast u now) = enqueues set u (Some broadcast) now
   lawful (EnqueueUnrouted set u now) = enqueues-unrouted set u now
   lawful (EnqueueBroadcast set b now) = enqueues-broadcast set b now
   lawful (Dequeue now) = even (dequeues now)

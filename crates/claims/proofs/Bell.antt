@@ -1,9 +1,9 @@
 -- The table of specs/Bell holds, by computation: only that a frame, a device and a key is the same as itself is no computation. Assumes nothing.
+use Rattle.std.specs.Prelude.{Option, None, Some}
 use Prim.Native.Nat.{ℕ}
 use mathlib.Core.Path.{◌≡◌, refl, ap, ◌∙◌}
 use mathlib.Core.Bool.{Bool, true, false}
 use mathlib.Core.List.{List, [], ◌∷◌, ◌++◌}
-use mathlib.Core.Option.{Option, none, some}
 use lib.Dec.{eqb}
 use borrow.Author.Tests.{eq-eqb}
 use Rattle.records.specs.Pick.{pick}
@@ -19,7 +19,7 @@ use Rattle.model.specs.Model.{Model, fresh_of, with_unicasts, with_broadcasts, d
 use Rattle.model.specs.Calls.{late, unless, turn_unicast, turn_broadcast}
 use Rattle.model.specs.Steps.{Call, Outcome, acts, step_of, after}
 use Rattle.model.specs.Steps.Call.{Dequeue, Transmitted, Poll, AckReceived, Delivered, Tick}
-use Rattle.claims.specs.CausesTypes.{Opt16, Some16, Opt64, None64, Absent, Short, AckKey, QuorumKey, ApsAck, Unicast, Broadcast, TxResult, Sent, Failed, Refusal, TimeTooLate, OtherFrame, FromUnicasts, FromBroadcasts, Replied}
+use Rattle.claims.specs.CausesTypes.{Absent, Short, AckKey, QuorumKey, ApsAck, Unicast, Broadcast, TxResult, Sent, Failed, Refusal, TimeTooLate, OtherFrame, FromUnicasts, FromBroadcasts, Replied}
 use Rattle.claims.specs.Bell.{Given, Holds, EitherSide, enqueue, passive, reported, broadcast_reported, c1, c2, c3, c4, c5, c6, c7, c8, c9}
 
 -- ---- a call whose test holds of the first send of its table
@@ -67,7 +67,7 @@ delivered-hits m k h = go m.broadcasts h
 abbrev polled_to : Model → List Unicast → Outcome
 polled_to m us = acts (answers (unicast_turned m uni.poll_turn us).model (Replied true))
 
-poll-hits : (m : Model) (eui : Opt64) (nwk : Opt16) (now : ℕ) → late now ≡ false → head_has (uni.awaits eui nwk now) m.unicasts
+poll-hits : (m : Model) (eui : Option ℕ) (nwk : Option ℕ) (now : ℕ) → late now ≡ false → head_has (uni.awaits eui nwk now) m.unicasts
     → step_of m (Poll eui nwk now) ≡ polled_to m m.unicasts
 poll-hits m eui nwk now l h =
     ap
@@ -87,7 +87,7 @@ poll-hits m eui nwk now l h =
         h
 
 -- a report that nothing bars
-report-hits : (m : Model) (id frame : ℕ) (r : TxResult) (now delay : ℕ) → late now ≡ false → unis.report_bar frame (first_of (has_id unicast_entry id) m.unicasts) ≡ none
+report-hits : (m : Model) (id frame : ℕ) (r : TxResult) (now delay : ℕ) → late now ≡ false → unis.report_bar frame (first_of (has_id unicast_entry id) m.unicasts) ≡ None
     → step_of m (Transmitted FromUnicasts id frame r now delay) ≡ acts (turn_unicast m (has_id unicast_entry id) (uni.report_turn r now delay))
 report-hits m id frame r now delay l h =
     ap
@@ -96,7 +96,7 @@ report-hits m id frame r now delay l h =
     l
     ∙ ap (λ (o : Option Refusal). acts (unless m o (turn_unicast m (has_id unicast_entry id) (uni.report_turn r now delay)))) h
 
-broadcast-report-hits : (m : Model) (id frame : ℕ) (r : TxResult) (now delay : ℕ) → late now ≡ false → bro.report_bar frame (lookup broadcast_id id m.broadcasts) ≡ none
+broadcast-report-hits : (m : Model) (id frame : ℕ) (r : TxResult) (now delay : ℕ) → late now ≡ false → bro.report_bar frame (lookup broadcast_id id m.broadcasts) ≡ None
     → step_of m (Transmitted FromBroadcasts id frame r now delay) ≡ acts (turn_broadcast m (has_id broadcast_entry id) (bro.report_turn r now delay))
 broadcast-report-hits m id frame r now delay l h =
     ap
@@ -111,8 +111,8 @@ both_of e = (ap (λ (o : Outcome). o.reply) e, ap (λ (o : Outcome). o.actions) 
 
 module _ (x : Given) where
   -- each is the same as itself
-  same-frame : pick (eqb x.frame x.frame) none (some OtherFrame) ≡ none
-  same-frame = ap (λ (b : Bool). pick b none (some OtherFrame)) (eq-eqb x.frame x.frame refl)
+  same-frame : pick (eqb x.frame x.frame) None (Some OtherFrame) ≡ None
+  same-frame = ap (λ (b : Bool). pick b None (Some OtherFrame)) (eq-eqb x.frame x.frame refl)
 
   same-device : eqb x.device x.device ≡ true
   same-device = eq-eqb x.device x.device refl
@@ -148,18 +148,18 @@ module _ (x : Given) where
   holds4 =
       let m : Model = after (fresh_of 0) (enqueue x x.priority x.confirm (Short x.device) ∷ []) in
       let o : Outcome = polled_to m m.unicasts in
-      let e : step_of m (Poll None64 (Some16 x.device) 0) ≡ o = poll-hits m None64 (Some16 x.device) 0 refl same-device in
+      let e : step_of m (Poll None (Some x.device) 0) ≡ o = poll-hits m None (Some x.device) 0 refl same-device in
       let lent : Model = (step_of o.model (Dequeue 0)).model in
       let failed : (now : ℕ) → Call = λ now. reported x 0 (Failed x.code) now x.delay in
       let back : Outcome = acts (turn_unicast lent (has_id unicast_entry 0) (uni.report_turn (Failed x.code) 7679 x.delay)) in
-      let before : step_of (step_of (step_of m (Poll None64 (Some16 x.device) 0)).model (Dequeue 0)).model (failed 7679) ≡ back =
+      let before : step_of (step_of (step_of m (Poll None (Some x.device) 0)).model (Dequeue 0)).model (failed 7679) ≡ back =
       ap (λ (o : Outcome). step_of (step_of o.model (Dequeue 0)).model (failed 7679)) e
       ∙ report-hits lent 0 x.frame (Failed x.code) 7679 x.delay refl same-frame in (
         both_of before,
         (
           both_of
-              (ap (λ (o : Outcome). step_of o.model (Poll None64 (Some16 x.device) 7679)) before
-              ∙ poll-hits back.model None64 (Some16 x.device) 7679 refl same-device),
+              (ap (λ (o : Outcome). step_of o.model (Poll None (Some x.device) 7679)) before
+              ∙ poll-hits back.model None (Some x.device) 7679 refl same-device),
           (
             both_of
                 (ap (λ (o : Outcome). step_of (step_of o.model (Dequeue 0)).model (failed 7680)) e

@@ -1,11 +1,11 @@
 -- SUCCESS ONLY FOR CAUSE, proved: every call keeps each send tied to the history, and settles a success only for cause. Assumes nothing.
+use Rattle.std.specs.Prelude.{Option, None, Some}
 use Prim.Native.Nat.{ℕ, suc, ◌-◌, ◌≤◌}
 use native.Mathlib.Omega.{arith}
 use mathlib.Core.Path.{◌≡◌, refl, sym, ap, subst}
 use mathlib.Core.Bool.{Bool, true, false, not, ◌||◌}
 use mathlib.Core.List.{List, [], ◌∷◌, ◌++◌}
 use mathlib.Core.Logic.{inl, inr, ⊎_elim}
-use mathlib.Core.Option.{Option, none, some}
 use lib.ListN.{length, take}
 use lib.Dec.{ltb, leb, eqb}
 use borrow.Author.Tests.{eqb-true}
@@ -17,7 +17,6 @@ use Rattle.records.proofs.Cases.{either, never}
 use Rattle.rows.specs.Lists.{All, insert_by, lookup}
 use Rattle.rows.specs.Moves.{Turn, told, at_first_told, first_of, any_of, count, has_id, each_told}
 use Rattle.rows.proofs.Promises.{first-has, told-found, told-missed}
-use Rattle.casting.specs.declared.Best as cast
 use Rattle.casting.specs.Rules as bro
 use Rattle.sending.specs.Rules as uni
 use Rattle.sending.specs.Lists as unis
@@ -30,7 +29,7 @@ use Rattle.model.specs.Steps.Reply.{Says}
 use Rattle.model.specs.Sound.{SoundModel}
 use Rattle.model.proofs.Kepts.{all_insert, all-only}
 use Rattle.model.proofs.Sounds.{fresh-sound, step-sound}
-use Rattle.claims.specs.CausesTypes.{Opt16, Opt32, None32, Some32, Opt64, Address, Absent, Short, Extended, Stage, Queued, Transmitting, Retrying, AwaitingPoll, AwaitingApsAck, AckKey, QuorumKey, Unicast, Unrouted, Destination, Broadcast, Settings, TxResult, Sent, Failed, Verdict, Success, Failure, Code, Action, HandedOff, Settled, Refusal, TimeTooLate, IdsExhausted, NoCopies, NoPlace, ResultsMismatch, Best, NoneReady, Ready, NoBest, BestIs, Lapsed, Bound, Retry, NotHeld, Declined, Granted, NewUnicast, NewUnrouted, NewBroadcast, Resolved, Reached, Unreached, Lender, FromUnicasts, FromBroadcasts, Answer, Denied, Accepted, Issued}
+use Rattle.claims.specs.CausesTypes.{Address, Absent, Short, Extended, Stage, Queued, Transmitting, Retrying, AwaitingPoll, AwaitingApsAck, AckKey, QuorumKey, Unicast, Unrouted, Destination, Broadcast, Settings, TxResult, Sent, Failed, Verdict, Success, Failure, Code, Action, HandedOff, Settled, Refusal, TimeTooLate, IdsExhausted, NoCopies, NoPlace, ResultsMismatch, Best, Ready, Lapsed, Bound, Retry, NotHeld, Declined, Granted, NewUnicast, NewUnrouted, NewBroadcast, Resolved, Reached, Unreached, Lender, FromUnicasts, FromBroadcasts, Answer, Denied, Accepted, Issued}
 use Rattle.claims.specs.Causes.Want.{AnAck, AReport, AReportAndQuorum}
 use Rattle.claims.specs.Causes.{Fact, Ever, Want, confirm_want, schedule_want, want_of, Enqueued, Acked, Reported, Heard, SuccessForCause, HandedOffForCause, OneWant, PollTellsNothing, FailedIsNoSuccess}
 use Rattle.claims.proofs.CausesMoves.{all_append, all-at, first-there, is-oldest, ForCause, each-kept, each-told, first-kept, first-told}
@@ -66,14 +65,14 @@ module _ (E : Fact → Type 0) where
 
     -- ---- turns on one table
 
-    turned-unicast : (q : Unicast → Bool) (f : Unicast → Turn Unicast) → ((u : Unicast) → TiedU E u → first_of q m.unicasts ≡ some u → GoodU E u (f u)) → Fair (turn_unicast m q f)
+    turned-unicast : (q : Unicast → Bool) (f : Unicast → Turn Unicast) → ((u : Unicast) → TiedU E u → first_of q m.unicasts ≡ Some u → GoodU E u (f u)) → Fair (turn_unicast m q f)
     turned-unicast q f g =
         record {
           ties = on-unicasts (first-kept E unicast_entry (TiedU E) f q m.unicasts g t.unicasts);
           said = first-told E unicast_entry (TiedU E) f q m.unicasts g t.unicasts;
         }
 
-    turned-broadcast : (q : Broadcast → Bool) (f : Broadcast → Turn Broadcast) → ((b : Broadcast) → TiedB E b → first_of q m.broadcasts ≡ some b → GoodB E b (f b))
+    turned-broadcast : (q : Broadcast → Bool) (f : Broadcast → Turn Broadcast) → ((b : Broadcast) → TiedB E b → first_of q m.broadcasts ≡ Some b → GoodB E b (f b))
         → Fair (turn_broadcast m q f)
     turned-broadcast q f g =
         record {
@@ -82,8 +81,8 @@ module _ (E : Fact → Type 0) where
         }
 
     unless-fair : (o : Option Refusal) (e : Effect) → Fair e → Fair (unless m o e)
-    unless-fair none e h = h
-    unless-fair (some x) e h = refused x
+    unless-fair None e h = h
+    unless-fair (Some x) e h = refused x
 
     -- ---- enqueues: the send is issued, or nothing changes
 
@@ -98,7 +97,7 @@ module _ (E : Fact → Type 0) where
     admit false false false true m' h = refused NoPlace
     admit false false false false m' h = quiet m' (Issued m.next) (h refl)
 
-    enqueue-fair : (s : Settings) (u : NewUnicast) (copy : Opt32) (now : ℕ)
+    enqueue-fair : (s : Settings) (u : NewUnicast) (copy : Option ℕ) (now : ℕ)
         → ((enqueue_of m s u copy now).answer ≡ Issued m.next → E (Enqueued m.next (confirm_want u.confirm))) → Fair (enqueue_of m s u copy now)
     enqueue-fair s u copy now h =
         let v : Unicast = new_unicast m s u copy now in
@@ -152,18 +151,18 @@ module _ (E : Fact → Type 0) where
     dequeue-fair : (now : ℕ) → Fair (dequeue_of m now)
     dequeue-fair now = either Fair (late now) (refused TimeTooLate) (go (unis.best_of now m.unicasts) (bro.best_of now m.broadcasts))
       where
-        go : (a : Best) (b : cast.Best) → Fair (lend_best m a b)
-        go NoneReady NoBest = quiet m _ t
-        go NoneReady (BestIs j q) = lend-broadcast j
-        go (Ready i p) NoBest = lend-unicast i
-        go (Ready i p) (BestIs j q) = either Fair (unicast_first i (rank_of p) j q) (lend-unicast i) (lend-broadcast j)
+        go : (a : Best) (b : Option (ℕ × ℕ)) → Fair (lend_best m a b)
+        go None None = quiet m _ t
+        go None (Some (j, q)) = lend-broadcast j
+        go (Ready i p) None = lend-unicast i
+        go (Ready i p) (Some (j, q)) = either Fair (unicast_first i (rank_of p) j q) (lend-unicast i) (lend-broadcast j)
 
     -- a report is accepted, or nothing changes
     accept : (late : Bool) (o : Option Refusal) (e : Effect) → e.answer ≡ Accepted → ((pick late (denied m TimeTooLate) (unless m o e)).answer ≡ Accepted → Fair e)
         → Fair (pick late (denied m TimeTooLate) (unless m o e))
     accept true o e a h = refused TimeTooLate
-    accept false none e a h = h a
-    accept false (some x) e a h = refused x
+    accept false None e a h = h a
+    accept false (Some x) e a h = refused x
 
     report-fair : (from : Lender) (id frame : ℕ) (x : TxResult) (now delay : ℕ) → ((transmitted_of m from id frame x now delay).answer ≡ Accepted → IfSent E x id)
         → Fair (transmitted_of m from id frame x now delay)
@@ -183,20 +182,20 @@ module _ (E : Fact → Type 0) where
 
     -- ---- devices
 
-    poll-fair : (eui : Opt64) (nwk : Opt16) (now : ℕ) → Fair (poll_of m eui nwk now)
+    poll-fair : (eui : Option ℕ) (nwk : Option ℕ) (now : ℕ) → Fair (poll_of m eui nwk now)
     poll-fair eui nwk now =
         either Fair (late now) (refused TimeTooLate)
         (quiet _ _ (on-unicasts (first-kept E unicast_entry (TiedU E) uni.poll_turn (uni.awaits eui nwk now) m.unicasts (λ u w f. poll-good E u w) t.unicasts)))
 
-    ack-fair : (k : AckKey) → ((u : Unicast) → first_of (uni.keyed k) m.unicasts ≡ some u → E (Acked u.id k)) → Fair (ack_of m k)
+    ack-fair : (k : AckKey) → ((u : Unicast) → first_of (uni.keyed k) m.unicasts ≡ Some u → E (Acked u.id k)) → Fair (ack_of m k)
     ack-fair k h =
         turned-unicast (uni.keyed k) uni.ack_turn (λ u w f. ack-good E k u w (first-has unicast_id (uni.keyed k) m.unicasts u f) (h u f))
 
-    delivered-fair : (k : QuorumKey) → ((b : Broadcast) → first_of (bro.keyed k) m.broadcasts ≡ some b → E (Heard b.id k)) → Fair (delivered_of m k)
+    delivered-fair : (k : QuorumKey) → ((b : Broadcast) → first_of (bro.keyed k) m.broadcasts ≡ Some b → E (Heard b.id k)) → Fair (delivered_of m k)
     delivered-fair k h =
         turned-broadcast (bro.keyed k) bro.delivered_turn (λ b w f. delivered-good E k b w (first-has broadcast_id (bro.keyed k) m.broadcasts b f) (h b f))
 
-    drop-fair : (eui : Opt64) (nwk : ℕ) → Fair (drop_of m eui nwk)
+    drop-fair : (eui : Option ℕ) (nwk : ℕ) → Fair (drop_of m eui nwk)
     drop-fair eui nwk =
         record {
           ties = on-unicasts (each-kept E unicast_entry (TiedU E) (uni.drop_turn eui nwk) (drop-good E eui nwk) m.unicasts t.unicasts);
@@ -310,9 +309,9 @@ module _ (E : Fact → Type 0) where
 
   pub step-fair : (m : Model) → SoundModel m → Tied m → (c : Call) → ((P : Fact) → P m c → E P) → Stepped (step_of m c)
   step-fair m s t (EnqueueUnicast set u now) h =
-      fair _ (enqueue-fair t set u None32 now (λ e. h (Enqueued m.next (confirm_want u.confirm)) (record { wants = refl; issued = ap Says e })))
+      fair _ (enqueue-fair t set u None now (λ e. h (Enqueued m.next (confirm_want u.confirm)) (record { wants = refl; issued = ap Says e })))
   step-fair m s t (EnqueueCopy set broadcast u now) h =
-      fair _ (enqueue-fair t set u (Some32 broadcast) now (λ e. h (Enqueued m.next (confirm_want u.confirm)) (record { wants = refl; issued = ap Says e })))
+      fair _ (enqueue-fair t set u (Some broadcast) now (λ e. h (Enqueued m.next (confirm_want u.confirm)) (record { wants = refl; issued = ap Says e })))
   step-fair m s t (EnqueueUnrouted set u now) h =
       fair _ (unrouted-fair t set u now (λ e. h (Enqueued m.next (confirm_want u.confirm)) (record { wants = refl; issued = ap Says e })))
   step-fair m s t (EnqueueBroadcast set b now) h =
@@ -391,14 +390,14 @@ next_grows m c = go c
     admitted late empty full m' l = either Grows late same (either Grows empty same (either Grows (eqb m.next no_id) same (either Grows full same l)))
 
     barred : (o : Option Refusal) (e : Effect) → Grows e → Grows (unless m o e)
-    barred none e l = l
-    barred (some x) e l = same
+    barred None e l = l
+    barred (Some x) e l = same
 
-    lends : (a : Best) (b : cast.Best) → Grows (lend_best m a b)
-    lends NoneReady NoBest = same
-    lends NoneReady (BestIs j q) = same
-    lends (Ready i p) NoBest = same
-    lends (Ready i p) (BestIs j q) = either Grows (unicast_first i (rank_of p) j q) same same
+    lends : (a : Best) (b : Option (ℕ × ℕ)) → Grows (lend_best m a b)
+    lends None None = same
+    lends None (Some (j, q)) = same
+    lends (Ready i p) None = same
+    lends (Ready i p) (Some (j, q)) = either Grows (unicast_first i (rank_of p) j q) same same
 
     reports : (from : Lender) (id frame : ℕ) (x : TxResult) (now delay : ℕ) → Grows (report_in m from id frame x now delay)
     reports FromUnicasts id frame x now delay = barred (unis.report_bar frame (first_of (has_id unicast_entry id) m.unicasts)) _ same
@@ -438,7 +437,7 @@ next_grows m c = go c
     go (HasUnrouted d) = same
     go (HasAwaiting a) = same
 
-nothing-wanted : {w : Want} {B : Type 0} → none ≡ some w → B
+nothing-wanted : {w : Want} {B : Type 0} → None ≡ Some w → B
 nothing-wanted e = let z : ◌≡◌ {A = ℕ} 0 1 = cc in absurd (omega arith)
 
 -- an enqueue that issues an id issues the next one, and draws it
@@ -464,7 +463,7 @@ draws i w m c q = go c q.wants q.issued
         (either Good empty (denied-not NoCopies _)
         (either Good (eqb m.next no_id) (denied-not IdsExhausted _) (either Good full (denied-not NoPlace _) (issued m' n))))
 
-    go : (c : Call) → want_of c ≡ some w → (step_of m c).reply ≡ Says (Issued i) → Draws m (step_of m c).model i
+    go : (c : Call) → want_of c ≡ Some w → (step_of m c).reply ≡ Says (Issued i) → Draws m (step_of m c).model i
     go (EnqueueUnicast set u now) s e = admitted (late now) false (leb unicast_room (length m.unicasts)) _ refl e
     go (EnqueueCopy set broadcast u now) s e = admitted (late now) false (leb unicast_room (length m.unicasts)) _ refl e
     go (EnqueueUnrouted set u now) s e = admitted (late now) false (unr.no_room (new_unrouted m set u now) m.unrouted m.held) _ refl e
@@ -489,14 +488,14 @@ draws i w m c q = go c q.wants q.issued
     go (HasUnrouted d) s e = nothing-wanted s
     go (HasAwaiting a) s e = nothing-wanted s
 
--- what is issued from some tables on is not below their next id
+-- what is issued from Some tables on is not below their next id
 issued-from : (i : ℕ) (w : Want) (m : Model) (cs : List Call) → Ever m cs (Enqueued i w) → m.next ≤ i
 issued-from i w m [] h = absurd h
 issued-from i w m (c ∷ cs) h =
     ⊎_elim (λ x. let z : i ≡ m.next = (draws i w m c x).is in omega arith)
     (λ x. omega (arith, next_grows m c, issued-from i w (step_of m c).model cs x)) h
 
-same-want : {v w : Want} {o : Option Want} → o ≡ some v → o ≡ some w → v ≡ w
+same-want : {v w : Want} {o : Option Want} → o ≡ Some v → o ≡ Some w → v ≡ w
 same-want p q = cc
 
 one-want-from : (i : ℕ) (v w : Want) (m : Model) (cs : List Call) → Ever m cs (Enqueued i v) → Ever m cs (Enqueued i w) → v ≡ w
@@ -576,13 +575,13 @@ failed-is-no-success first cs i frame code now delay e hop l unacked x =
     tied = (walk-tied E (fresh_of first) (fresh-sound first l) (none-tied E first) cs (λ P x. x)).unicasts
 
     at : (o : Option Unicast) → first_of (has_id unicast_entry i) m.unicasts ≡ o → All NoSuccess (at_first_told unicast_entry (has_id unicast_entry i) f m.unicasts)
-    at none p = subst (All NoSuccess) (sym (told-missed unicast_entry (has_id unicast_entry i) f m.unicasts p)) tt
-    at (some u) p =
+    at None p = subst (All NoSuccess) (sym (told-missed unicast_entry (has_id unicast_entry i) f m.unicasts p)) tt
+    at (Some u) p =
         let is : u.id ≡ i = eqb-true u.id i (first-has unicast_id (has_id unicast_entry i) m.unicasts u p) in
         subst (All NoSuccess) (sym (told-found unicast_entry (has_id unicast_entry i) f m.unicasts u p))
         (failed-tells E code now delay u (all-at (TiedU E) m.unicasts u tied (first-there (has_id unicast_entry i) m.unicasts u p))
         (λ k a. unacked k (subst (λ (j : ℕ). E (Acked j k)) is a)))
 
     go : (o : Option Refusal) → Quiet (unless m o (turn_unicast m (has_id unicast_entry i) f))
-    go none = at (first_of (has_id unicast_entry i) m.unicasts) refl
-    go (some y) = tt
+    go None = at (first_of (has_id unicast_entry i) m.unicasts) refl
+    go (Some y) = tt

@@ -1,4 +1,5 @@
 -- What the moves of a table keep of every record and say in every action, where each turn keeps it. Over any type of records. Assumes nothing.
+use Rattle.std.specs.Prelude.{Some}
 use Prim.Native.Nat.{ℕ}
 use native.Mathlib.Omega.{arith}
 use mathlib.Core.Path.{◌≡◌, refl, subst, sym}
@@ -6,7 +7,6 @@ use mathlib.Core.Bool.{Bool, true, false}
 use mathlib.Core.List.Memᴰ
 use mathlib.Core.List.{List, [], ◌∷◌, ◌++◌, Memᴰ}
 use mathlib.Core.Logic.{⊎_elim}
-use mathlib.Core.Option.{some}
 use Rattle.records.specs.Pick.{pick}
 use Rattle.claims.specs.CausesTypes.{Verdict, Success, Failure, Code, Entry, Action, HandedOff, Settled}
 use Rattle.records.proofs.Cases.{either-by}
@@ -27,15 +27,15 @@ all-at P [] x a h = elim h [ ]
 all-at P (y ∷ ys) x a h = ⊎_elim (λ e. subst P (sym e) a.0) (λ d. all-at P ys x a.1 d) (Memᴰ.cases_cons h)
 
 -- the first with a test is there, and is the oldest with it
-pub first-there : {A : Type 0} (q : A → Bool) (xs : List A) (x : A) → first_of q xs ≡ some x → Memᴰ x xs
+pub first-there : {A : Type 0} (q : A → Bool) (xs : List A) (x : A) → first_of q xs ≡ Some x → Memᴰ x xs
 first-there q [] x e = let z : ◌≡◌ {A = ℕ} 0 1 = cc in absurd (omega arith)
 first-there q (y ∷ ys) x e = go (q y) e (first-there q ys x)
   where
-    go : (b : Bool) → pick b (some y) (first_of q ys) ≡ some x → (first_of q ys ≡ some x → Memᴰ x ys) → Memᴰ x (y ∷ ys)
+    go : (b : Bool) → pick b (Some y) (first_of q ys) ≡ Some x → (first_of q ys ≡ Some x → Memᴰ x ys) → Memᴰ x (y ∷ ys)
     go true f ih = let i : y ≡ x = cc in Memᴰ.head (sym i)
     go false f ih = Memᴰ.tail (ih f)
 
-pub is-oldest : {A : Type 0} (entry : A → Entry) (q : A → Bool) (xs : List A) (x : A) → Rising (id_of entry) 0 xs → first_of q xs ≡ some x → Oldest entry q xs (entry x).id
+pub is-oldest : {A : Type 0} (entry : A → Entry) (q : A → Bool) (xs : List A) (x : A) → Rising (id_of entry) 0 xs → first_of q xs ≡ Some x → Oldest entry q xs (entry x).id
 is-oldest entry q xs x r e =
     record {
       the = x;
@@ -86,21 +86,21 @@ module _ (E : Fact → Type 0) where
 
       module _ (q : A → Bool) where
         -- of the first with a test, that it is the first is known besides
-        pub first-kept : (xs : List A) → ((x : A) → P x → first_of q xs ≡ some x → Good x (f x)) → All P xs → All P (at_first q f xs)
+        pub first-kept : (xs : List A) → ((x : A) → P x → first_of q xs ≡ Some x → Good x (f x)) → All P xs → All P (at_first q f xs)
         first-kept [] g a = tt
         first-kept (x ∷ xs) g a = go (q x) g (λ h. first-kept xs h a.1)
           where
-            go : (b : Bool) → ((y : A) → P y → pick b (some x) (first_of q xs) ≡ some y → Good y (f y))
-                → (((y : A) → P y → first_of q xs ≡ some y → Good y (f y)) → All P (at_first q f xs)) → All P (pick b (kept (f x) ++ xs) (x ∷ at_first q f xs))
+            go : (b : Bool) → ((y : A) → P y → pick b (Some x) (first_of q xs) ≡ Some y → Good y (f y))
+                → (((y : A) → P y → first_of q xs ≡ Some y → Good y (f y)) → All P (at_first q f xs)) → All P (pick b (kept (f x) ++ xs) (x ∷ at_first q f xs))
             go true g ih = turn-kept x xs (f x) (g x a.0 refl) a.1
             go false g ih = (a.0, ih g)
 
-        pub first-told : (xs : List A) → ((x : A) → P x → first_of q xs ≡ some x → Good x (f x)) → All P xs → All ForCause (at_first_told entry q f xs)
+        pub first-told : (xs : List A) → ((x : A) → P x → first_of q xs ≡ Some x → Good x (f x)) → All P xs → All ForCause (at_first_told entry q f xs)
         first-told [] g a = tt
         first-told (x ∷ xs) g a = go (q x) g (λ h. first-told xs h a.1)
           where
-            go : (b : Bool) → ((y : A) → P y → pick b (some x) (first_of q xs) ≡ some y → Good y (f y))
-                → (((y : A) → P y → first_of q xs ≡ some y → Good y (f y)) → All ForCause (at_first_told entry q f xs))
+            go : (b : Bool) → ((y : A) → P y → pick b (Some x) (first_of q xs) ≡ Some y → Good y (f y))
+                → (((y : A) → P y → first_of q xs ≡ Some y → Good y (f y)) → All ForCause (at_first_told entry q f xs))
                 → All ForCause (pick b (told (entry x) (f x)) (at_first_told entry q f xs))
             go true g ih = turn-told x (f x) (g x a.0 refl)
             go false g ih = ih g

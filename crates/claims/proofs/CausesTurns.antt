@@ -1,4 +1,5 @@
 -- What ties the flags of a send to the history, and that each rule keeps it or settles for cause. Assumes nothing.
+use Rattle.std.specs.Prelude.{Option, None, Some}
 use Prim.Native.Nat.{ℕ, ◌+◌, ◌-◌}
 use mathlib.Core.Path.{◌≡◌, refl, sym, ap, subst}
 use mathlib.Core.Bool.{Bool, true, false, not, ◌&&◌, ◌||◌}
@@ -10,7 +11,7 @@ use Rattle.rows.specs.Moves.{Turn}
 use Rattle.sending.specs.Rules as uni
 use Rattle.unrouted.specs.Rules as unr
 use Rattle.casting.specs.Rules as bro
-use Rattle.claims.specs.CausesTypes.{Opt16, None16, Some16, Opt64, Address, Absent, Short, Extended, AckKey, QuorumKey, Confirm, OnHandoff, ApsAck, Stage, Queued, Transmitting, Retrying, AwaitingPoll, AwaitingApsAck, Unicast, Unrouted, Broadcast, Schedule, Once, PassiveAck, FixedInterval, CopyState, Idle, CopyQueued, CopyTransmitting, TxResult, Sent, Failed, Lapsed, Bound}
+use Rattle.claims.specs.CausesTypes.{Address, Absent, Short, Extended, AckKey, QuorumKey, Confirm, OnHandoff, ApsAck, Stage, Queued, Transmitting, Retrying, AwaitingPoll, AwaitingApsAck, Unicast, Unrouted, Broadcast, Schedule, Once, PassiveAck, FixedInterval, CopyState, Idle, CopyQueued, CopyTransmitting, TxResult, Sent, Failed, Lapsed, Bound}
 use Rattle.claims.specs.Causes.{Fact, Want, confirm_want, schedule_want, Enqueued, Acked, Reported, Heard, Caused}
 use Rattle.claims.specs.Causes.Want.{AnAck, AReport, AReportAndQuorum}
 use Rattle.claims.proofs.CausesMoves.{IfSuccess, Good}
@@ -188,9 +189,9 @@ module _ (E : Fact → Type 0) where
   pub cancel-good : (u : Unicast) → TiedU u → GoodU u (uni.cancel_turn u)
   cancel-good u t = (settle-good u t, tt)
 
-  pub drop-good : (eui : Opt64) (nwk : ℕ) (u : Unicast) → TiedU u → GoodU u (uni.drop_turn eui nwk u)
+  pub drop-good : (eui : Option ℕ) (nwk : ℕ) (u : Unicast) → TiedU u → GoodU u (uni.drop_turn eui nwk u)
   drop-good eui nwk u t =
-      either (GoodU u) (uni.is_awaiting u.stage && uni.under eui (Some16 nwk) u.poll_address) (settle-good u t, tt) t
+      either (GoodU u) (uni.is_awaiting u.stage && uni.under eui (Some nwk) u.poll_address) (settle-good u t, tt) t
 
   pub copy-good : (i : ℕ) (u : Unicast) → TiedU u → GoodU u (uni.copy_turn i u)
   copy-good i u t = either (GoodU u) (uni.copies i u) (cancel-good u t) t
@@ -257,9 +258,9 @@ module _ (E : Fact → Type 0) where
   over-caused i (PassiveAck k n t) q r = tt
   over-caused i (FixedInterval x n t) q r = record { want = AReport; enqueued = q; met = r }
 
-  last-fails : (o : Opt16) (i : ℕ) → IfSuccess E (bro.last_verdict o) i
-  last-fails None16 i = tt
-  last-fails (Some16 c) i = tt
+  last-fails : (o : Option ℕ) (i : ℕ) → IfSuccess E (bro.last_verdict o) i
+  last-fails None i = tt
+  last-fails (Some c) i = tt
 
   pub broadcast-tick-good : (now : ℕ) (b : Broadcast) → TiedB b → GoodB b (bro.tick_turn now b)
   broadcast-tick-good now b t = go b.copy

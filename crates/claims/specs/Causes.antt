@@ -1,11 +1,10 @@
 -- SUCCESS ONLY FOR CAUSE: a send is settled as a success, or told as handed off, only where its cause is among the calls made so far, this one included.
 -- Any calls may stand in a history, refused ones too; its first id is any u32 (first ≤ no_id). proofs/Causes proves it.
-use Rattle.std.specs.Prelude.{ℕ, ◌≤◌, ◌≡◌, Bool, true, ◌⊎◌}
+use Rattle.std.specs.Prelude.{ℕ, ◌≤◌, ◌≡◌, Bool, true, ◌⊎◌, Option, None, Some}
 use mathlib.Core.List.{List, [], ◌∷◌, ◌++◌, Memᴰ}
-use Rattle.std.proofs.Math.Option.{Option, none, some}
 use Rattle.records.specs.Limits.{no_id}
 use Rattle.records.specs.Records.{unicast_entry, broadcast_entry}
-use Rattle.claims.specs.CausesTypes.{Opt16, Opt64, AckKey, QuorumKey, Confirm, OnHandoff, ApsAck, Schedule, Once, PassiveAck, FixedInterval, Sent, Failed, Success, Entry, HandedOff, Settled}
+use Rattle.claims.specs.CausesTypes.{AckKey, QuorumKey, Confirm, OnHandoff, ApsAck, Schedule, Once, PassiveAck, FixedInterval, Sent, Failed, Success, Entry, HandedOff, Settled}
 use Rattle.rows.specs.Lists.{All}
 use Rattle.sending.specs.Rules as uni
 use Rattle.casting.specs.Rules as bro
@@ -21,7 +20,7 @@ use Rattle.model.specs.Steps.Reply.{Says}
 abbrev pub Fact : Type 1
 Fact = Model → Call → Type 0
 
--- it holds of some call, of those made one after the other from these tables on
+-- it holds of Some call, of those made one after the other from these tables on
 abbrev pub Ever : Model → List Call → Fact → Type 0
 Ever m [] P = ⊥
 Ever m (c ∷ cs) P = P m c ⊎ Ever (step_of m c).model cs P
@@ -43,34 +42,34 @@ schedule_want (PassiveAck k n t) = AReportAndQuorum k
 schedule_want (FixedInterval i n t) = AReport
 
 abbrev pub want_of : Call → Option Want
-want_of (EnqueueUnicast s u now) = some (confirm_want u.confirm)
-want_of (EnqueueCopy s broadcast u now) = some (confirm_want u.confirm)
-want_of (EnqueueUnrouted s u now) = some (confirm_want u.confirm)
-want_of (EnqueueBroadcast s b now) = some (schedule_want b.schedule)
-want_of (Dequeue now) = none
-want_of (Transmitted from id frame x now delay) = none
-want_of (Poll eui nwk now) = none
-want_of (AckReceived k) = none
-want_of (RetryDiscovery d) = none
-want_of (FailUnrouted d) = none
-want_of (RouteUnicasts s d now n rs) = none
-want_of (Delivered k) = none
-want_of (DropIndirect eui nwk) = none
-want_of (Cancel id) = none
-want_of (Tick now) = none
-want_of Abandon = none
-want_of NextWake = none
-want_of Destinations = none
-want_of AwaitingQuorum = none
-want_of (PollAddresses es ns) = none
-want_of (HasUnrouted d) = none
-want_of (HasAwaiting a) = none
+want_of (EnqueueUnicast s u now) = Some (confirm_want u.confirm)
+want_of (EnqueueCopy s broadcast u now) = Some (confirm_want u.confirm)
+want_of (EnqueueUnrouted s u now) = Some (confirm_want u.confirm)
+want_of (EnqueueBroadcast s b now) = Some (schedule_want b.schedule)
+want_of (Dequeue now) = None
+want_of (Transmitted from id frame x now delay) = None
+want_of (Poll eui nwk now) = None
+want_of (AckReceived k) = None
+want_of (RetryDiscovery d) = None
+want_of (FailUnrouted d) = None
+want_of (RouteUnicasts s d now n rs) = None
+want_of (Delivered k) = None
+want_of (DropIndirect eui nwk) = None
+want_of (Cancel id) = None
+want_of (Tick now) = None
+want_of Abandon = None
+want_of NextWake = None
+want_of Destinations = None
+want_of AwaitingQuorum = None
+want_of (PollAddresses es ns) = None
+want_of (HasUnrouted d) = None
+want_of (HasAwaiting a) = None
 
 -- ---- what is said of a call
 
 -- it enqueued the send i, which wants that
 pub record Enqueued (i : ℕ) (w : Want) (m : Model) (c : Call) : Type 0 where
-  pub wants : want_of c ≡ some w
+  pub wants : want_of c ≡ Some w
   pub issued : (step_of m c).reply ≡ Says (Issued i)
 
 -- i is the oldest send of a table with a test: it is there and has it, and no send with it has a lower id
@@ -117,7 +116,7 @@ pub record Caused (E : Fact → Type 0) (i : ℕ) : Type 0 where
 -- SUCCESS FOR CAUSE: where the call c, made after the calls cs from fresh tables, settles a send as a success, the calls up to and with c hold its cause
 abbrev pub SuccessForCause : Type 0
 SuccessForCause =
-    (first : ℕ) (cs : List Call) (c : Call) (e : Entry) (hop : Opt16) → first ≤ no_id
+    (first : ℕ) (cs : List Call) (c : Call) (e : Entry) (hop : Option ℕ) → first ≤ no_id
     → Memᴰ (Settled e Success hop) (step_of (after (fresh_of first) cs) c).actions → Caused (Ever (fresh_of first) (cs ++ (c ∷ []))) e.id
 
 -- HANDED OFF FOR CAUSE: where it tells that a send is handed off, they hold an accepted report of success on it
@@ -135,10 +134,10 @@ OneWant =
 
 -- A POLL TELLS NOTHING, on any tables
 abbrev pub PollTellsNothing : Type 0
-PollTellsNothing = (m : Model) (eui : Opt64) (nwk : Opt16) (now : ℕ) → (step_of m (Poll eui nwk now)).actions ≡ []
+PollTellsNothing = (m : Model) (eui : Option ℕ) (nwk : Option ℕ) (now : ℕ) → (step_of m (Poll eui nwk now)).actions ≡ []
 
 -- A FAILED TRANSMIT IS NO SUCCESS: where no ack came for the unicast i, a report that its transmit failed settles nothing as a success
 abbrev pub FailedIsNoSuccess : Type 0
 FailedIsNoSuccess =
-    (first : ℕ) (cs : List Call) (i frame code now delay : ℕ) (e : Entry) (hop : Opt16) → first ≤ no_id → ((k : AckKey) → Ever (fresh_of first) cs (Acked i k) → ⊥)
+    (first : ℕ) (cs : List Call) (i frame code now delay : ℕ) (e : Entry) (hop : Option ℕ) → first ≤ no_id → ((k : AckKey) → Ever (fresh_of first) cs (Acked i k) → ⊥)
     → Memᴰ (Settled e Success hop) (step_of (after (fresh_of first) cs) (Transmitted FromUnicasts i frame (Failed code) now delay)).actions → ⊥

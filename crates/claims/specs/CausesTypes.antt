@@ -1,10 +1,4 @@
 -- The declared types that the claims speak of, under one name.
-pub use Rattle.records.specs.declared.Opt16.{Opt16}
-pub use Rattle.records.specs.declared.Opt16.TheVariants.{None16, Some16}
-pub use Rattle.records.specs.declared.Opt32.{Opt32}
-pub use Rattle.records.specs.declared.Opt32.TheVariants.{None32, Some32}
-pub use Rattle.records.specs.declared.Opt64.{Opt64}
-pub use Rattle.records.specs.declared.Opt64.TheVariants.{None64}
 pub use Rattle.records.specs.declared.Address.{Address}
 pub use Rattle.records.specs.declared.Address.TheVariants.{Absent, Short, Extended}
 pub use Rattle.records.specs.declared.Priority.{Priority}
@@ -34,9 +28,6 @@ pub use Rattle.records.specs.declared.Action.{Action}
 pub use Rattle.records.specs.declared.Action.TheVariants.{HandedOff, Settled}
 pub use Rattle.records.specs.declared.Refusal.{Refusal}
 pub use Rattle.records.specs.declared.Refusal.TheVariants.{TimeTooLate, IdsExhausted, NoCopies, NoPlace, InTheRadio, OtherFrame, ResultsMismatch}
-pub use Rattle.sending.specs.declared.Best.{Best}
-pub use Rattle.sending.specs.declared.Best.TheVariants.{NoneReady, Ready}
-pub use Rattle.casting.specs.declared.Best.TheVariants.{NoBest, BestIs}
 pub use Rattle.unrouted.specs.declared.Which.TheVariants.{Lapsed, Bound}
 pub use Rattle.unrouted.specs.declared.Retry.{Retry}
 pub use Rattle.unrouted.specs.declared.Retry.TheVariants.{NotHeld, Declined, Granted}

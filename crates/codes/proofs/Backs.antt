@@ -1,4 +1,5 @@
 -- What the numbers of a record's parts say is the part again. Assumes nothing.
+use Rattle.std.specs.Prelude.{None, Some}
 use Prim.Native.Nat.{ℕ, ◌+◌, ◌-◌, ◌*◌, ◌/◌, ◌%◌, ◌<◌}
 use native.Mathlib.Nat.{mod-eq_of_lt}
 use native.Mathlib.Omega.{arith}
@@ -8,7 +9,7 @@ use lib.Dec.{eqb}
 use borrow.Author.Tests.{ne_eqb}
 use Rattle.records.specs.Pick.{pick, bit}
 use Rattle.records.specs.Priorities.{rank_of}
-use Rattle.codes.specs.Types.{None8, Some8, None16, Some16, None32, Some32, Priority, Background, UserLow, UserNormal, UserHigh, UserCritical, StackCritical, Address, Absent, Short, Extended, Stage, Queued, Transmitting, Retrying, AwaitingPoll, AwaitingApsAck, CopyState, Idle, CopyQueued, CopyTransmitting, Schedule, Once, PassiveAck, FixedInterval, QuorumKey, AckKey, OnHandoff, ApsAck}
+use Rattle.codes.specs.Types.{Priority, Background, UserLow, UserNormal, UserHigh, UserCritical, StackCritical, Address, Absent, Short, Extended, Stage, Queued, Transmitting, Retrying, AwaitingPoll, AwaitingApsAck, CopyState, Idle, CopyQueued, CopyTransmitting, Schedule, Once, PassiveAck, FixedInterval, QuorumKey, AckKey, OnHandoff, ApsAck}
 use Rattle.codes.specs.Codes.{Coded, opt8_word, opt8_from, opt16_word, opt16_from, opt32_word, opt32_from, priority_from, flag, address_tag, CodedAddress, stage_tag, stage_time, stage_from, copy_tag, copy_from, quorum_word, quorum_from, schedule_tag, CodedSchedule, ack_first, ack_second, ack_key_from, confirm_from, CodedConfirm}
 
 -- ---- optional numbers, over the width and what is made of them
@@ -18,14 +19,14 @@ optional none some m x h =
     let e : x + 1 - 1 ≡ x = omega arith in
     rw (ne_eqb (x + 1) 0 (λ q. omega arith), e) (ap some (mod-eq_of_lt h))
 
-pub coded8 : (x : ℕ) → x < 256 → Coded opt8_word opt8_from 512 (Some8 x) (x + 1)
-coded8 x h = record { is = refl; low = omega arith; back = optional None8 Some8 256 x h }
+pub coded8 : (x : ℕ) → x < 256 → Coded opt8_word opt8_from 512 (Some x) (x + 1)
+coded8 x h = record { is = refl; low = omega arith; back = optional None Some 256 x h }
 
-pub coded16 : (x : ℕ) → x < 65536 → Coded opt16_word opt16_from 131072 (Some16 x) (x + 1)
-coded16 x h = record { is = refl; low = omega arith; back = optional None16 Some16 65536 x h }
+pub coded16 : (x : ℕ) → x < 65536 → Coded opt16_word opt16_from 131072 (Some x) (x + 1)
+coded16 x h = record { is = refl; low = omega arith; back = optional None Some 65536 x h }
 
-pub coded32 : (x : ℕ) → x < 4294967296 → Coded opt32_word opt32_from 8589934592 (Some32 x) (x + 1)
-coded32 x h = record { is = refl; low = omega arith; back = optional None32 Some32 4294967296 x h }
+pub coded32 : (x : ℕ) → x < 4294967296 → Coded opt32_word opt32_from 8589934592 (Some x) (x + 1)
+coded32 x h = record { is = refl; low = omega arith; back = optional None Some 4294967296 x h }
 
 -- ---- levels, flags, tags
 

@@ -1,8 +1,8 @@
 -- The parts of a record as numbers, and what such numbers say. Each number is below a limit, so that several share a word; 0 says the first variant, so
 -- that zeros say a blank.
-use Rattle.std.specs.Prelude.{ℕ, ◌+◌, ◌-◌, ◌*◌, ◌/◌, ◌%◌, ◌<◌, ◌≡◌, Bool, true, false, eqb}
+use Rattle.std.specs.Prelude.{ℕ, ◌+◌, ◌-◌, ◌*◌, ◌/◌, ◌%◌, ◌<◌, ◌≡◌, Bool, true, false, eqb, Option, None, Some}
 use Rattle.records.specs.Pick.{pick}
-use Rattle.codes.specs.Types.{Opt8, None8, Some8, Opt16, None16, Some16, Opt32, None32, Some32, Priority, Background, UserLow, UserNormal, UserHigh, UserCritical, StackCritical, Address, Absent, Short, Extended, Stage, Queued, Transmitting, Retrying, AwaitingPoll, AwaitingApsAck, CopyState, Idle, CopyQueued, CopyTransmitting, Schedule, Once, PassiveAck, FixedInterval, QuorumKey, AckKey, Confirm, OnHandoff, ApsAck}
+use Rattle.codes.specs.Types.{Priority, Background, UserLow, UserNormal, UserHigh, UserCritical, StackCritical, Address, Absent, Short, Extended, Stage, Queued, Transmitting, Retrying, AwaitingPoll, AwaitingApsAck, CopyState, Idle, CopyQueued, CopyTransmitting, Schedule, Once, PassiveAck, FixedInterval, QuorumKey, AckKey, Confirm, OnHandoff, ApsAck}
 use Rattle.codes.specs.declared.Two.{Two}
 
 -- r is the number of a, is below the limit, and says a again
@@ -13,26 +13,26 @@ pub record Coded {A : Type 0} (word : A → ℕ) (from : ℕ → A) (limit : ℕ
 
 -- ---- optional numbers: 0 where absent, else one more
 
-abbrev pub opt8_word : Opt8 → ℕ
-opt8_word None8 = 0
-opt8_word (Some8 x) = x + 1
+abbrev pub opt8_word : Option ℕ → ℕ
+opt8_word None = 0
+opt8_word (Some x) = x + 1
 
-abbrev pub opt8_from : ℕ → Opt8
-opt8_from x = pick (eqb x 0) None8 (Some8 ((x - 1) % 256))
+abbrev pub opt8_from : ℕ → Option ℕ
+opt8_from x = pick (eqb x 0) None (Some ((x - 1) % 256))
 
-abbrev pub opt16_word : Opt16 → ℕ
-opt16_word None16 = 0
-opt16_word (Some16 x) = x + 1
+abbrev pub opt16_word : Option ℕ → ℕ
+opt16_word None = 0
+opt16_word (Some x) = x + 1
 
-abbrev pub opt16_from : ℕ → Opt16
-opt16_from x = pick (eqb x 0) None16 (Some16 ((x - 1) % 65536))
+abbrev pub opt16_from : ℕ → Option ℕ
+opt16_from x = pick (eqb x 0) None (Some ((x - 1) % 65536))
 
-abbrev pub opt32_word : Opt32 → ℕ
-opt32_word None32 = 0
-opt32_word (Some32 x) = x + 1
+abbrev pub opt32_word : Option ℕ → ℕ
+opt32_word None = 0
+opt32_word (Some x) = x + 1
 
-abbrev pub opt32_from : ℕ → Opt32
-opt32_from x = pick (eqb x 0) None32 (Some32 ((x - 1) % 4294967296))
+abbrev pub opt32_from : ℕ → Option ℕ
+opt32_from x = pick (eqb x 0) None (Some ((x - 1) % 4294967296))
 
 -- ---- levels and flags
 

@@ -1,12 +1,4 @@
 -- The declared types of `records` and their variants under one name.
-pub use Rattle.records.specs.declared.Opt8.{Opt8}
-pub use Rattle.records.specs.declared.Opt8.TheVariants.{None8, Some8}
-pub use Rattle.records.specs.declared.Opt16.{Opt16}
-pub use Rattle.records.specs.declared.Opt16.TheVariants.{None16, Some16}
-pub use Rattle.records.specs.declared.Opt32.{Opt32}
-pub use Rattle.records.specs.declared.Opt32.TheVariants.{None32, Some32}
-pub use Rattle.records.specs.declared.Opt64.{Opt64}
-pub use Rattle.records.specs.declared.Opt64.TheVariants.{None64, Some64}
 pub use Rattle.records.specs.declared.Address.{Address}
 pub use Rattle.records.specs.declared.Address.TheVariants.{Absent, Short, Extended}
 pub use Rattle.records.specs.declared.Priority.{Priority}

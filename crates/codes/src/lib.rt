@@ -7,64 +7,62 @@ ghost use Rattle.records.specs.Pick.{bit};
 ghost use Rattle.codes.specs.Codes.{opt8_word, opt8_from, opt16_word, opt16_from, opt32_word, opt32_from, priority_from, address_tag, address_from, stage_tag, stage_time, stage_from, copy_tag, copy_from, schedule_tag, schedule_next, schedule_from, quorum_word, quorum_from, ack_key_from, confirm_from, Coded, CodedAddress, CodedCopies, CodedSchedule, CodedConfirm};
 ghost use Rattle.codes.specs.Types.{ApsAck};
 
-use records::{
-    AckKey, Address, Confirm, CopyState, Opt8, Opt16, Opt32, Priority, QuorumKey, Schedule, Stage,
-};
+use records::{AckKey, Address, Confirm, CopyState, Priority, QuorumKey, Schedule, Stage};
 
 // ---- optional numbers: 0 where absent, else one more
 
-pub fn opt8_word(o: Opt8) -> u64
+pub fn opt8_word(o: Option<u8>) -> u64
     ensures { Coded opt8_word opt8_from 512 o result }
 {
     match o {
-        Opt8::None8 => 0,
-        Opt8::Some8(x) => x as u64 + 1,
+        None => 0,
+        Some(x) => x as u64 + 1,
     }
 }
 
-pub fn opt8_of(x: u64) -> Opt8
+pub fn opt8_of(x: u64) -> Option<u8>
     ensures { result ≡ opt8_from x }
 {
     if x == 0 {
-        return Opt8::None8;
+        return None;
     }
-    Opt8::Some8(((x - 1) % 256) as u8)
+    Some(((x - 1) % 256) as u8)
 }
 
-pub fn opt16_word(o: Opt16) -> u64
+pub fn opt16_word(o: Option<u16>) -> u64
     ensures { Coded opt16_word opt16_from 131072 o result }
 {
     match o {
-        Opt16::None16 => 0,
-        Opt16::Some16(x) => x as u64 + 1,
+        None => 0,
+        Some(x) => x as u64 + 1,
     }
 }
 
-pub fn opt16_of(x: u64) -> Opt16
+pub fn opt16_of(x: u64) -> Option<u16>
     ensures { result ≡ opt16_from x }
 {
     if x == 0 {
-        return Opt16::None16;
+        return None;
     }
-    Opt16::Some16(((x - 1) % 65536) as u16)
+    Some(((x - 1) % 65536) as u16)
 }
 
-pub fn opt32_word(o: Opt32) -> u64
+pub fn opt32_word(o: Option<u32>) -> u64
     ensures { Coded opt32_word opt32_from 8589934592 o result }
 {
     match o {
-        Opt32::None32 => 0,
-        Opt32::Some32(x) => x as u64 + 1,
+        None => 0,
+        Some(x) => x as u64 + 1,
     }
 }
 
-pub fn opt32_of(x: u64) -> Opt32
+pub fn opt32_of(x: u64) -> Option<u32>
     ensures { result ≡ opt32_from x }
 {
     if x == 0 {
-        return Opt32::None32;
+        return None;
     }
-    Opt32::Some32(((x - 1) % 4294967296) as u32)
+    Some(((x - 1) % 4294967296) as u32)
 }
 
 // ---- levels and flags

@@ -1,10 +1,10 @@
 -- How an enqueue, whose send enters one table under a drawn id, and a call by id, which may be barred, become calls on all tables. Assumes nothing.
+use Rattle.std.specs.Prelude.{Option, None, Some}
 use Prim.Native.Nat.{ℕ, suc, ◌≤◌, ◌<◌}
 use native.Mathlib.Numerals.{add-one}
 use mathlib.Core.Path.{◌≡◌, refl, sym, ap, ◌∙◌}
 use mathlib.Core.Bool.{Bool, true, false}
 use mathlib.Core.List.{List}
-use mathlib.Core.Option.{Option}
 use lib.ListN.{length}
 use lib.Dec.{leb}
 use borrow.Author.Tests.{ltb-false, le-leb, lt-leb}
@@ -24,8 +24,6 @@ use Rattle.casting.specs.declared.Outcome as bro
 use Rattle.casting.specs.declared.Outcome.TheVariants as broadcasts
 use Rattle.casting.specs.declared.Counts as left
 use Rattle.broadcasts.specs.Calls.{Answered}
-use Rattle.unrouted.specs.declared.Entering.{Entering}
-use Rattle.unrouted.specs.declared.Entering.TheVariants.{NoRoom, Entered}
 use Rattle.unrouted.specs.Rules.{no_room, holding}
 use Rattle.unrouted.specs.Calls.{Enqueued}
 use Rattle.model.specs.Model.{Model, Effect, with_unicasts, with_unrouted, with_broadcasts, denied, answers, lent_model, SoundTables, Does}
@@ -56,11 +54,11 @@ entering_unrouted m attempts u =
     pick (no_room u m.unrouted m.held) (denied m NoPlace)
     (answers (with_unrouted (drawn m) (insert_by unrouted_id u m.unrouted) (holding attempts u.destination m.held)) (Issued m.next))
 
-abbrev is_refused : Entering → Bool
-is_refused NoRoom = true
-is_refused (Entered n k) = false
+abbrev is_refused : Option (ℕ × ℕ) → Bool
+is_refused None = true
+is_refused (Some (n, k)) = false
 
-room-told : {o : Entering} (b : Bool) (n k : ℕ) → o ≡ pick b NoRoom (Entered n k) → b ≡ is_refused o
+room-told : {o : Option (ℕ × ℕ)} (b : Bool) (n k : ℕ) → o ≡ pick b None (Some (n, k)) → b ≡ is_refused o
 room-told true n k e = sym (ap is_refused e)
 room-told false n k e = sym (ap is_refused e)
 
@@ -85,14 +83,14 @@ module _ {c : Counts} {ws vs ds bs : List ℕ} (s : SoundTables c ws vs ds bs) w
       → Does (answers (with_unicasts (drawn (lent_model c ws vs ds bs)) (insert_by unicast_id u' (live unicast_table ws c.unicasts))) (Issued c.next_id)) buf ws' vs ds bs buf r
   enters-unicast e q h = issues c e (rw (← q) h) (held-holds s.unrouted) (held-holds s.held) (held-holds s.broadcasts)
 
-  module _ {attempts : ℕ} {u u' : Unrouted} {vs' ds' : List ℕ} {o : Entering} (k : Enqueued attempts u vs c.unrouted ds c.held vs' ds' o) (q : u ≡ u') where
-    pub refused-unrouted : {buf : List ℕ} {r : Did} → o ≡ NoRoom → r ≡ denied_by c NoPlace → Does (entering_unrouted (lent_model c ws vs ds bs) attempts u') buf ws vs' ds' bs buf r
+  module _ {attempts : ℕ} {u u' : Unrouted} {vs' ds' : List ℕ} {o : Option (ℕ × ℕ)} (k : Enqueued attempts u vs c.unrouted ds c.held vs' ds' o) (q : u ≡ u') where
+    pub refused-unrouted : {buf : List ℕ} {r : Did} → o ≡ None → r ≡ denied_by c NoPlace → Does (entering_unrouted (lent_model c ws vs ds bs) attempts u') buf ws vs' ds' bs buf r
     refused-unrouted p e =
         let x = rw (q, p) at k in
         let n : no_room u' (live unrouted_table vs c.unrouted) (live destination_table ds c.held) ≡ true = room-told _ _ _ x.answer in
         rw (n, x.tables.0, x.tables.1) (does-deny s NoPlace e)
 
-    pub enters-unrouted : {buf : List ℕ} {r : Did} {n m : ℕ} → o ≡ Entered n m → r ≡ drawn_by c c.unicasts n m c.broadcasts
+    pub enters-unrouted : {buf : List ℕ} {r : Did} {n m : ℕ} → o ≡ Some (n, m) → r ≡ drawn_by c c.unicasts n m c.broadcasts
         → Does (entering_unrouted (lent_model c ws vs ds bs) attempts u') buf ws vs' ds' bs buf r
     enters-unrouted p e =
         let x = rw (q, p) at k in

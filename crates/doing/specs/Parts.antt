@@ -1,5 +1,5 @@
 -- The small parts that the calls on lent tables are put together from, and what an abandon lists.
-use Rattle.std.specs.Prelude.{ℕ, ◌+◌, ◌*◌, ◌≡◌, List, [], ◌∷◌, length}
+use Rattle.std.specs.Prelude.{ℕ, ◌+◌, ◌*◌, ◌≡◌, List, [], ◌∷◌, length, Option, None}
 use Rattle.std.proofs.lemmas.List.Edits.{sets}
 use Rattle.records.specs.Records.{broadcast_id, unicast_entry}
 use Rattle.rows.specs.Rows.{flat}
@@ -11,7 +11,7 @@ use Rattle.sending.specs.Lists.{cancel_bar}
 use Rattle.sending.specs.Rules as uni
 use Rattle.unrouted.specs.Rules as unr
 use Rattle.casting.specs.Rules as bro
-use Rattle.doing.specs.Types.{Opt32, None64, Unicast, Unrouted, Broadcast, Settings, Entry, Refusal, NewUnicast, NewUnrouted, NewBroadcast, Answer, Denied, Issued, Counts, Did, Abandoned}
+use Rattle.doing.specs.Types.{Unicast, Unrouted, Broadcast, Settings, Entry, Refusal, NewUnicast, NewUnrouted, NewBroadcast, Answer, Denied, Issued, Counts, Did, Abandoned}
 use Rattle.model.specs.Model.{Model, Effect}
 use Rattle.model.specs.Calls.{unless, turn_unicast, cast_bar, cancel_broadcast, abandoned}
 
@@ -33,8 +33,8 @@ drawn_by c us rs hs bs =
 
 -- ---- a send as it is admitted
 
-abbrev pub unicast_as : ℕ → NewUnicast → Opt32 → Settings → ℕ → Unicast
-unicast_as id u copy s now = uni.admitted_of id u.frame u.waiter u.priority u.confirm u.next_hop u.poll_address copy s now None64
+abbrev pub unicast_as : ℕ → NewUnicast → Option ℕ → Settings → ℕ → Unicast
+unicast_as id u copy s now = uni.admitted_of id u.frame u.waiter u.priority u.confirm u.next_hop u.poll_address copy s now None
 
 abbrev pub unrouted_as : ℕ → NewUnrouted → Settings → ℕ → Unrouted
 unrouted_as id u s now = unr.admitted_of id u.frame u.waiter u.priority u.confirm u.destination now s.handoff_timeout

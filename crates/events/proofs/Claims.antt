@@ -1,4 +1,5 @@
 -- Worked records: 01's example trace, and records that are in or out of their form.
+use Rattle.std.specs.Prelude.{None}
 use Prim.Native.Nat.{ℕ}
 use mathlib.Core.Path.{◌≡◌, refl}
 use mathlib.Core.List.{List, [], ◌∷◌, ◌++◌}
@@ -9,7 +10,7 @@ use Rattle.events.specs.Events.{event_of}
 use Rattle.events.specs.Arrivals.{unicast_of, broadcast_of}
 use Rattle.events.specs.Signals.{dequeue_of, poll_of, has_awaiting_of}
 use Rattle.events.specs.Routes.{route_of}
-use Rattle.events.specs.Types.{Short, UserNormal, StackCritical, OnHandoff, Once, None16, None64, OnUnicast, OnBroadcast, OnDequeue, OnPoll, OnRoute, Malformed}
+use Rattle.events.specs.Types.{Short, UserNormal, StackCritical, OnHandoff, Once, OnUnicast, OnBroadcast, OnDequeue, OnPoll, OnRoute, Malformed}
 use Rattle.framing.specs.declared.Standing.TheVariants.{Record, Unknown, Cut, End}
 
 abbrev zeros : ℕ → List ℕ
@@ -80,7 +81,7 @@ unfolding event_of unicast_of
 absent-is-zero = refl
 
 -- a poll with both flags 0 is in form; has awaiting without an address is not
-pub neither-polls : event_of 8 (zeros 20) ≡ OnPoll 0 None64 None16
+pub neither-polls : event_of 8 (zeros 20) ≡ OnPoll 0 None None
 unfolding event_of poll_of
 neither-polls = refl
 

@@ -1,26 +1,26 @@
 -- Kind 12, a route: now 8, destination 2, count 1 (to 16), sixteen of result tag 1, hop 2, address 9, code 2.
-use Rattle.std.specs.Prelude.{ℕ, zero, suc, ◌+◌, ◌*◌, Bool, true, false, List, [], ◌∷◌, eqb, ltb, length, replicate}
+use Rattle.std.specs.Prelude.{ℕ, zero, suc, ◌+◌, ◌*◌, Bool, true, false, List, [], ◌∷◌, eqb, ltb, length, replicate, Option, None, Some}
 use Rattle.records.specs.Pick.{pick}
 use Rattle.fields.specs.Bytes.{number}
 use Rattle.fields.specs.Parts.{address_at}
-use Rattle.events.specs.Types.{Address, Absent, Short, Extended, Resolved, Reached, Unreached, ReadAddress, IsAddress, WrongAddress, ReadResolved, IsResolved, WrongResolved, Event, OnRoute, Malformed}
+use Rattle.events.specs.Types.{Address, Absent, Short, Extended, Resolved, Reached, Unreached, Event, OnRoute, Malformed}
 
 -- under tag 1 hop and address are absent
-abbrev pub unreached_by : ℕ → Address → ℕ → ReadResolved
-unreached_by hop Absent code = pick (eqb hop 0) (IsResolved (Unreached code)) WrongResolved
-unreached_by hop (Short x) code = WrongResolved
-unreached_by hop (Extended x) code = WrongResolved
+abbrev pub unreached_by : ℕ → Address → ℕ → Option Resolved
+unreached_by hop Absent code = pick (eqb hop 0) (Some (Unreached code)) None
+unreached_by hop (Short x) code = None
+unreached_by hop (Extended x) code = None
 
 -- under tag 0 the code is absent
-abbrev pub resolved_by : ℕ → ℕ → Address → ℕ → ReadResolved
+abbrev pub resolved_by : ℕ → ℕ → Address → ℕ → Option Resolved
 resolved_by tag hop a code =
-    pick (eqb tag 0) (pick (eqb code 0) (IsResolved (Reached hop a)) WrongResolved) (pick (eqb tag 1) (unreached_by hop a code) WrongResolved)
+    pick (eqb tag 0) (pick (eqb code 0) (Some (Reached hop a)) None) (pick (eqb tag 1) (unreached_by hop a code) None)
 
-abbrev pub resolved_with : ℕ → ℕ → ReadAddress → ℕ → ReadResolved
-resolved_with tag hop (IsAddress a) code = resolved_by tag hop a code
-resolved_with tag hop WrongAddress code = WrongResolved
+abbrev pub resolved_with : ℕ → ℕ → Option Address → ℕ → Option Resolved
+resolved_with tag hop (Some a) code = resolved_by tag hop a code
+resolved_with tag hop None code = None
 
-abbrev pub resolved_at : ℕ → List ℕ → ReadResolved
+abbrev pub resolved_at : ℕ → List ℕ → Option Resolved
 resolved_at at b = resolved_with (number 1 at b) (number 2 (at + 1) b) (address_at (at + 3) b) (number 2 (at + 12) b)
 
 -- ---- the sixteen results
@@ -28,13 +28,13 @@ resolved_at at b = resolved_with (number 1 at b) (number 2 (at + 1) b) (address_
 abbrev pub no_result : Resolved
 no_result = Unreached 0
 
-abbrev pub result_in : ReadResolved → Resolved
-result_in (IsResolved r) = r
-result_in WrongResolved = no_result
+abbrev pub result_in : Option Resolved → Resolved
+result_in (Some r) = r
+result_in None = no_result
 
-abbrev pub in_form : ReadResolved → Bool
-in_form (IsResolved r) = true
-in_form WrongResolved = false
+abbrev pub in_form : Option Resolved → Bool
+in_form (Some r) = true
+in_form None = false
 
 abbrev pub no_results : List Resolved
 no_results = replicate 16 no_result

@@ -2,10 +2,9 @@
 ghost use Rattle.std.specs.Prelude.{◌≡◌, ◌+◌, ◌≤◌, length};
 ghost use Rattle.events.specs.Arrivals.{unicast_with, unicast_at, unicast_of, copy_of, unrouted_with, unrouted_of, broadcast_with, broadcast_of};
 
-use crate::{Event, ReadUnicast};
+use crate::Event;
 use fields::numbers::{byte_at, u16_at, u32_at, u64_at};
 use fields::parts::{address_at, confirm_at, priority_by, schedule_at};
-use fields::{ReadAddress, ReadConfirm, ReadPriority, ReadSchedule};
 use model::{NewBroadcast, NewUnicast, NewUnrouted};
 
 // ---- a unicast
@@ -14,16 +13,16 @@ pub(crate) fn unicast_with(
     frame: u32,
     waiter: u32,
     hop: u16,
-    level: ReadPriority,
-    address: ReadAddress,
-    settling: ReadConfirm,
-) -> ReadUnicast
+    level: Option<Priority>,
+    address: Option<Address>,
+    settling: Option<Confirm>,
+) -> Option<NewUnicast>
     ensures { result ≡ unicast_with frame waiter hop level address settling }
 {
     match level {
-        ReadPriority::IsPriority(priority) => match address {
-            ReadAddress::IsAddress(poll_address) => match settling {
-                ReadConfirm::IsConfirm(confirm) => ReadUnicast::IsUnicast(NewUnicast {
+        Some(priority) => match address {
+            Some(poll_address) => match settling {
+                Some(confirm) => Some(NewUnicast {
                     frame,
                     waiter,
                     priority,
@@ -31,15 +30,15 @@ pub(crate) fn unicast_with(
                     next_hop: hop,
                     poll_address,
                 }),
-                ReadConfirm::WrongConfirm => ReadUnicast::WrongUnicast,
+                None => None,
             },
-            ReadAddress::WrongAddress => ReadUnicast::WrongUnicast,
+            None => None,
         },
-        ReadPriority::WrongPriority => ReadUnicast::WrongUnicast,
+        None => None,
     }
 }
 
-pub(crate) fn unicast_at(b: &[u8], at: usize) -> ReadUnicast
+pub(crate) fn unicast_at(b: &[u8], at: usize) -> Option<NewUnicast>
     requires { at + 43 ≤ length b.now }
     ensures { result ≡ unicast_at at b.now }
 {
@@ -58,8 +57,8 @@ pub fn decode_unicast(b: &[u8]) -> Event
 {
     let clock = u64_at(b, 0);
     match unicast_at(b, 0) {
-        ReadUnicast::IsUnicast(u) => Event::OnUnicast(clock, u),
-        ReadUnicast::WrongUnicast => Event::Malformed,
+        Some(u) => Event::OnUnicast(clock, u),
+        None => Event::Malformed,
     }
 }
 
@@ -70,8 +69,8 @@ pub fn decode_copy(b: &[u8]) -> Event
     let id = u32_at(b, 0);
     let clock = u64_at(b, 4);
     match unicast_at(b, 4) {
-        ReadUnicast::IsUnicast(u) => Event::OnCopy(id, clock, u),
-        ReadUnicast::WrongUnicast => Event::Malformed,
+        Some(u) => Event::OnCopy(id, clock, u),
+        None => Event::Malformed,
     }
 }
 
@@ -82,14 +81,14 @@ pub(crate) fn unrouted_with(
     frame: u32,
     waiter: u32,
     destination: u16,
-    level: ReadPriority,
-    settling: ReadConfirm,
+    level: Option<Priority>,
+    settling: Option<Confirm>,
 ) -> Event
     ensures { result ≡ unrouted_with clock frame waiter destination level settling }
 {
     match level {
-        ReadPriority::IsPriority(priority) => match settling {
-            ReadConfirm::IsConfirm(confirm) => Event::OnUnrouted(
+        Some(priority) => match settling {
+            Some(confirm) => Event::OnUnrouted(
                 clock,
                 NewUnrouted {
                     frame,
@@ -99,9 +98,9 @@ pub(crate) fn unrouted_with(
                     destination,
                 },
             ),
-            ReadConfirm::WrongConfirm => Event::Malformed,
+            None => Event::Malformed,
         },
-        ReadPriority::WrongPriority => Event::Malformed,
+        None => Event::Malformed,
     }
 }
 
@@ -124,14 +123,14 @@ pub(crate) fn broadcast_with(
     clock: u64,
     frame: u32,
     waiter: u32,
-    level: ReadPriority,
-    plan: ReadSchedule,
+    level: Option<Priority>,
+    plan: Option<Schedule>,
 ) -> Event
     ensures { result ≡ broadcast_with clock frame waiter level plan }
 {
     match level {
-        ReadPriority::IsPriority(priority) => match plan {
-            ReadSchedule::IsSchedule(schedule) => Event::OnBroadcast(
+        Some(priority) => match plan {
+            Some(schedule) => Event::OnBroadcast(
                 clock,
                 NewBroadcast {
                     frame,
@@ -140,9 +139,9 @@ pub(crate) fn broadcast_with(
                     schedule,
                 },
             ),
-            ReadSchedule::WrongSchedule => Event::Malformed,
+            None => Event::Malformed,
         },
-        ReadPriority::WrongPriority => Event::Malformed,
+        None => Event::Malformed,
     }
 }
 

@@ -2,7 +2,7 @@
 #![tactic(auto)]
 
 use model::{Lender, NewBroadcast, NewUnicast, NewUnrouted, Resolved};
-use records::{AckKey, Address, Opt16, Opt64, QuorumKey, Settings, TxResult};
+use records::{AckKey, Address, QuorumKey, Settings, TxResult};
 
 pub mod arrivals;
 pub mod decode;
@@ -10,18 +10,6 @@ pub mod routes;
 pub mod signals;
 
 // ---- what has parts of its own: what was read, or that it is outside its form
-
-#[derive(Clone, Copy)]
-pub enum ReadResolved {
-    IsResolved(Resolved),
-    WrongResolved,
-}
-
-#[derive(Clone, Copy)]
-pub enum ReadUnicast {
-    IsUnicast(NewUnicast),
-    WrongUnicast,
-}
 
 // ---- events
 
@@ -43,13 +31,13 @@ pub enum Event {
         clock: u64,
         delay: u32,
     },
-    OnPoll(u64, Opt64, Opt16),
+    OnPoll(u64, Option<u64>, Option<u16>),
     OnAck(AckKey),
     OnRetry(u16),
     OnFail(u16),
     OnRoute(u64, u16, usize),
     OnDelivered(QuorumKey),
-    OnDrop(Opt64, u16),
+    OnDrop(Option<u64>, u16),
     OnCancel(u32),
     OnTick(u64),
     OnAbandon,

@@ -2,8 +2,7 @@
 ghost use Rattle.std.specs.Prelude.{◌≡◌, ◌+◌, ◌≤◌, ◌<◌, length};
 ghost use Rattle.events.specs.Routes.{unreached_by, resolved_by, resolved_with, resolved_at, result_in, in_form, results_of, results_in, entry_right, entries_right, route_of};
 
-use crate::{Event, ReadResolved};
-use fields::ReadAddress;
+use crate::Event;
 use fields::numbers::{byte_at, u16_at, u64_at};
 use fields::parts::{address_at, blank_at};
 use model::Resolved;
@@ -11,48 +10,48 @@ use records::Address;
 
 // ---- one result
 
-fn unreached_by(hop: u16, address: Address, code: u16) -> ReadResolved
+fn unreached_by(hop: u16, address: Address, code: u16) -> Option<Resolved>
     ensures { result ≡ unreached_by hop address code }
 {
     match address {
         Address::Absent => {
             if hop == 0 {
-                ReadResolved::IsResolved(Resolved::Unreached(code))
+                Some(Resolved::Unreached(code))
             } else {
-                ReadResolved::WrongResolved
+                None
             }
         }
-        Address::Short(_) => ReadResolved::WrongResolved,
-        Address::Extended(_) => ReadResolved::WrongResolved,
+        Address::Short(_) => None,
+        Address::Extended(_) => None,
     }
 }
 
-fn resolved_by(tag: u8, hop: u16, address: Address, code: u16) -> ReadResolved
+fn resolved_by(tag: u8, hop: u16, address: Address, code: u16) -> Option<Resolved>
     ensures { result ≡ resolved_by tag hop address code }
 {
     match tag {
         0 => {
             if code == 0 {
-                ReadResolved::IsResolved(Resolved::Reached(hop, address))
+                Some(Resolved::Reached(hop, address))
             } else {
-                ReadResolved::WrongResolved
+                None
             }
         }
         1 => unreached_by(hop, address, code),
-        _ => ReadResolved::WrongResolved,
+        _ => None,
     }
 }
 
-fn resolved_with(tag: u8, hop: u16, address: ReadAddress, code: u16) -> ReadResolved
+fn resolved_with(tag: u8, hop: u16, address: Option<Address>, code: u16) -> Option<Resolved>
     ensures { result ≡ resolved_with tag hop address code }
 {
     match address {
-        ReadAddress::IsAddress(a) => resolved_by(tag, hop, a, code),
-        ReadAddress::WrongAddress => ReadResolved::WrongResolved,
+        Some(a) => resolved_by(tag, hop, a, code),
+        None => None,
     }
 }
 
-pub(crate) fn resolved_at(b: &[u8], at: usize) -> ReadResolved
+pub(crate) fn resolved_at(b: &[u8], at: usize) -> Option<Resolved>
     requires { at + 14 ≤ length b.now }
     ensures { result ≡ resolved_at at b.now }
 {
@@ -63,21 +62,21 @@ pub(crate) fn resolved_at(b: &[u8], at: usize) -> ReadResolved
     resolved_with(tag, hop, address, code)
 }
 
-fn result_in(x: ReadResolved) -> Resolved
+fn result_in(x: Option<Resolved>) -> Resolved
     ensures { result ≡ result_in x }
 {
     match x {
-        ReadResolved::IsResolved(y) => y,
-        ReadResolved::WrongResolved => Resolved::Unreached(0),
+        Some(y) => y,
+        None => Resolved::Unreached(0),
     }
 }
 
-fn in_form(x: ReadResolved) -> bool
+fn in_form(x: Option<Resolved>) -> bool
     ensures { result ≡ in_form x }
 {
     match x {
-        ReadResolved::IsResolved(_) => true,
-        ReadResolved::WrongResolved => false,
+        Some(_) => true,
+        None => false,
     }
 }
 

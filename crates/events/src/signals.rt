@@ -5,7 +5,6 @@ ghost use Rattle.events.specs.Signals.{settings_in, settings_of, dequeue_of, rep
 use crate::Event;
 use fields::numbers::{byte_at, u16_at, u32_at, u64_at};
 use fields::parts::{address_at, key_at, lender_by, opt16_by, opt64_by, result_by};
-use fields::{Read16, Read64, ReadAddress, ReadKey, ReadLender, ReadResult};
 use records::{Address, QuorumKey, Settings};
 
 pub fn settings_in(b: &[u8]) -> Settings
@@ -41,18 +40,18 @@ pub(crate) fn decode_dequeue(b: &[u8]) -> Event
 // ---- the radio
 
 pub(crate) fn report_with(
-    lender: ReadLender,
+    lender: Option<Lender>,
     id: u32,
     frame: u32,
-    outcome: ReadResult,
+    outcome: Option<TxResult>,
     clock: u64,
     delay: u32,
 ) -> Event
     ensures { result ≡ report_with lender id frame outcome clock delay }
 {
     match lender {
-        ReadLender::IsLender(from) => match outcome {
-            ReadResult::IsResult(result) => Event::OnReport {
+        Some(from) => match outcome {
+            Some(result) => Event::OnReport {
                 from,
                 id,
                 frame,
@@ -60,9 +59,9 @@ pub(crate) fn report_with(
                 clock,
                 delay,
             },
-            ReadResult::WrongResult => Event::Malformed,
+            None => Event::Malformed,
         },
-        ReadLender::WrongLender => Event::Malformed,
+        None => Event::Malformed,
     }
 }
 
@@ -81,15 +80,15 @@ pub fn decode_report(b: &[u8]) -> Event
 
 // ---- the network
 
-pub(crate) fn poll_with(clock: u64, extended: Read64, short: Read16) -> Event
+pub(crate) fn poll_with(clock: u64, extended: Option<Option<u64>>, short: Option<Option<u16>>) -> Event
     ensures { result ≡ poll_with clock extended short }
 {
     match extended {
-        Read64::Is64(eui) => match short {
-            Read16::Is16(nwk) => Event::OnPoll(clock, eui, nwk),
-            Read16::Wrong16 => Event::Malformed,
+        Some(eui) => match short {
+            Some(nwk) => Event::OnPoll(clock, eui, nwk),
+            None => Event::Malformed,
         },
-        Read64::Wrong64 => Event::Malformed,
+        None => Event::Malformed,
     }
 }
 
@@ -108,8 +107,8 @@ pub fn decode_ack(b: &[u8]) -> Event
     ensures { result ≡ ack_of b.now }
 {
     match key_at(b, 0) {
-        ReadKey::IsKey(key) => Event::OnAck(key),
-        ReadKey::WrongKey => Event::Malformed,
+        Some(key) => Event::OnAck(key),
+        None => Event::Malformed,
     }
 }
 
@@ -142,8 +141,8 @@ pub fn decode_drop(b: &[u8]) -> Event
 {
     let short = u16_at(b, 9);
     match opt64_by(byte_at(b, 0), u64_at(b, 1)) {
-        Read64::Is64(eui) => Event::OnDrop(eui, short),
-        Read64::Wrong64 => Event::Malformed,
+        Some(eui) => Event::OnDrop(eui, short),
+        None => Event::Malformed,
     }
 }
 
@@ -179,16 +178,16 @@ pub(crate) fn decode_has_unrouted(b: &[u8]) -> Event
     Event::OnHasUnrouted(u16_at(b, 0))
 }
 
-pub(crate) fn awaiting_by(address: ReadAddress) -> Event
+pub(crate) fn awaiting_by(address: Option<Address>) -> Event
     ensures { result ≡ awaiting_event address }
 {
     match address {
-        ReadAddress::IsAddress(a) => match a {
+        Some(a) => match a {
             Address::Absent => Event::Malformed,
             Address::Short(x) => Event::OnHasAwaiting(Address::Short(x)),
             Address::Extended(x) => Event::OnHasAwaiting(Address::Extended(x)),
         },
-        ReadAddress::WrongAddress => Event::Malformed,
+        None => Event::Malformed,
     }
 }
 

@@ -1,4 +1,5 @@
 -- Answers that fit before the reserved end, and answers that do not. Assumes nothing.
+use Rattle.std.specs.Prelude.{Option, None, Some}
 use Prim.Native.Nat.{ℕ, ◌+◌, ◌-◌, ◌≤◌, ◌<◌}
 use native.Mathlib.Omega.{arith}
 use mathlib.Core.Path.{◌≡◌, sym, ap, ◌∙◌}
@@ -12,7 +13,7 @@ use Rattle.answers.specs.Bytes.{Written}
 use Rattle.answers.specs.Items.{items_bytes}
 use Rattle.answers.proofs.Lists.{items-append}
 use Rattle.listings.specs.Listings.{wake_items}
-use Rattle.exchange.specs.Types.{Opt64, None64, Some64, Item, Done}
+use Rattle.exchange.specs.Types.{Item, Done}
 use Rattle.exchange.specs.Answering.{Answering, overfull}
 
 -- only the bytes matter
@@ -45,6 +46,6 @@ pub done-long : (is : List Item) → length (items_bytes (is ++ (Done ∷ []))) 
 done-long is = ap length (done-bytes is) ∙ length-append (items_bytes is) (129 ∷ [])
 
 -- the time of a wake, or none, takes nine bytes at the most
-pub wake-short : (o : Opt64) → length (items_bytes (wake_items o)) ≤ 9
-wake-short None64 = omega arith
-wake-short (Some64 t) = omega arith
+pub wake-short : (o : Option ℕ) → length (items_bytes (wake_items o)) ≤ 9
+wake-short None = omega arith
+wake-short (Some t) = omega arith

@@ -1,4 +1,5 @@
 -- What a kind says of its event: a kind that the run does not see to itself is a call of the tables, whatever its body. Assumes nothing.
+use Rattle.std.specs.Prelude.{Option, None, Some}
 use Prim.Native.Nat.{ℕ}
 use native.Mathlib.Omega.{arith}
 use mathlib.Core.Path.{◌≡◌, refl, sym, ap, ◌∙◌}
@@ -8,28 +9,8 @@ use borrow.Author.Tests.{ne_eqb}
 use lib.Dec.{T, eqb, ltb, eqb→eq, eqb_refl}
 use Rattle.records.specs.Pick.{pick, bit}
 use Rattle.records.specs.declared.Address.TheVariants.{Absent, Short, Extended}
-use Rattle.fields.specs.declared.Read16.{Read16}
-use Rattle.fields.specs.declared.Read16.TheVariants.{Is16, Wrong16}
-use Rattle.fields.specs.declared.Read64.{Read64}
-use Rattle.fields.specs.declared.Read64.TheVariants.{Is64, Wrong64}
-use Rattle.fields.specs.declared.ReadPriority.{ReadPriority}
-use Rattle.fields.specs.declared.ReadPriority.TheVariants.{IsPriority, WrongPriority}
-use Rattle.fields.specs.declared.ReadAddress.{ReadAddress}
-use Rattle.fields.specs.declared.ReadAddress.TheVariants.{IsAddress, WrongAddress}
-use Rattle.fields.specs.declared.ReadKey.{ReadKey}
-use Rattle.fields.specs.declared.ReadKey.TheVariants.{IsKey, WrongKey}
-use Rattle.fields.specs.declared.ReadConfirm.{ReadConfirm}
-use Rattle.fields.specs.declared.ReadConfirm.TheVariants.{IsConfirm, WrongConfirm}
-use Rattle.fields.specs.declared.ReadResult.{ReadResult}
-use Rattle.fields.specs.declared.ReadResult.TheVariants.{IsResult, WrongResult}
-use Rattle.fields.specs.declared.ReadLender.{ReadLender}
-use Rattle.fields.specs.declared.ReadLender.TheVariants.{IsLender, WrongLender}
-use Rattle.fields.specs.declared.ReadSchedule.{ReadSchedule}
-use Rattle.fields.specs.declared.ReadSchedule.TheVariants.{IsSchedule, WrongSchedule}
 use Rattle.fields.specs.Bytes.{number}
 use Rattle.fields.specs.Parts.{priority_by, address_at, key_at, confirm_at, schedule_at, opt16_by, opt64_by, result_by, lender_by}
-use Rattle.events.specs.declared.ReadUnicast.{ReadUnicast}
-use Rattle.events.specs.declared.ReadUnicast.TheVariants.{IsUnicast, WrongUnicast}
 use Rattle.events.specs.Events.{event_of}
 use Rattle.events.specs.Arrivals.{unicast_at, unicast_event, unicast_of, copy_event, copy_of, unrouted_with, unrouted_of, broadcast_with, broadcast_of}
 use Rattle.events.specs.Signals.{settings_of, dequeue_of, report_with, report_of, poll_with, poll_of, ack_event, ack_of, retry_of, fail_of, delivered_of, drop_with, drop_of, cancel_of, tick_of, pair_of, has_unrouted_of, awaiting_event, has_awaiting_of}
@@ -37,6 +18,14 @@ use Rattle.events.specs.Routes.{entries_right, route_of}
 use Rattle.steps.specs.Applied.{Plain}
 use Rattle.exchange.specs.Types.{Event, OnSettings, OnUnicast, OnCopy, OnUnrouted, OnBroadcast, OnDequeue, OnReport, OnPoll, OnAck, OnRetry, OnFail, OnRoute, OnDelivered, OnDrop, OnCancel, OnTick, OnAbandon, OnNextWake, OnPair, OnLists, OnHasUnrouted, OnHasAwaiting, Malformed}
 use Rattle.exchange.specs.World.{is_own}
+use Rattle.records.specs.declared.Priority.{Priority}
+use Rattle.records.specs.declared.Address.{Address}
+use Rattle.records.specs.declared.AckKey.{AckKey}
+use Rattle.records.specs.declared.Confirm.{Confirm}
+use Rattle.records.specs.declared.TxResult.{TxResult}
+use Rattle.records.specs.declared.Schedule.{Schedule}
+use Rattle.model.specs.declared.Lender.{Lender}
+use Rattle.model.specs.declared.NewUnicast.{NewUnicast}
 
 -- one that is handed to the tables as it is
 abbrev pub is_call : Event → Bool
@@ -66,52 +55,52 @@ is_call Malformed = true
 
 -- ---- by what the body says
 
-unicast-call : (t : ℕ) (u : ReadUnicast) → is_call (unicast_event t u) ≡ true
-unicast-call t (IsUnicast u) = refl
-unicast-call t WrongUnicast = refl
+unicast-call : (t : ℕ) (u : Option NewUnicast) → is_call (unicast_event t u) ≡ true
+unicast-call t (Some u) = refl
+unicast-call t None = refl
 
-copy-call : (id t : ℕ) (u : ReadUnicast) → is_call (copy_event id t u) ≡ true
-copy-call id t (IsUnicast u) = refl
-copy-call id t WrongUnicast = refl
+copy-call : (id t : ℕ) (u : Option NewUnicast) → is_call (copy_event id t u) ≡ true
+copy-call id t (Some u) = refl
+copy-call id t None = refl
 
-unrouted-call : (t f w d : ℕ) (p : ReadPriority) (c : ReadConfirm) → is_call (unrouted_with t f w d p c) ≡ true
-unrouted-call t f w d (IsPriority p) (IsConfirm c) = refl
-unrouted-call t f w d (IsPriority p) WrongConfirm = refl
-unrouted-call t f w d WrongPriority c = refl
+unrouted-call : (t f w d : ℕ) (p : Option Priority) (c : Option Confirm) → is_call (unrouted_with t f w d p c) ≡ true
+unrouted-call t f w d (Some p) (Some c) = refl
+unrouted-call t f w d (Some p) None = refl
+unrouted-call t f w d None c = refl
 
-broadcast-call : (t f w : ℕ) (p : ReadPriority) (s : ReadSchedule) → is_call (broadcast_with t f w p s) ≡ true
-broadcast-call t f w (IsPriority p) (IsSchedule s) = refl
-broadcast-call t f w (IsPriority p) WrongSchedule = refl
-broadcast-call t f w WrongPriority s = refl
+broadcast-call : (t f w : ℕ) (p : Option Priority) (s : Option Schedule) → is_call (broadcast_with t f w p s) ≡ true
+broadcast-call t f w (Some p) (Some s) = refl
+broadcast-call t f w (Some p) None = refl
+broadcast-call t f w None s = refl
 
-report-call : (l : ReadLender) (id f : ℕ) (x : ReadResult) (t d : ℕ) → is_call (report_with l id f x t d) ≡ true
-report-call (IsLender l) id f (IsResult x) t d = refl
-report-call (IsLender l) id f WrongResult t d = refl
-report-call WrongLender id f x t d = refl
+report-call : (l : Option Lender) (id f : ℕ) (x : Option TxResult) (t d : ℕ) → is_call (report_with l id f x t d) ≡ true
+report-call (Some l) id f (Some x) t d = refl
+report-call (Some l) id f None t d = refl
+report-call None id f x t d = refl
 
-poll-call : (t : ℕ) (x : Read64) (y : Read16) → is_call (poll_with t x y) ≡ true
-poll-call t (Is64 e) (Is16 n) = refl
-poll-call t (Is64 e) Wrong16 = refl
-poll-call t Wrong64 y = refl
+poll-call : (t : ℕ) (x : Option (Option ℕ)) (y : Option (Option ℕ)) → is_call (poll_with t x y) ≡ true
+poll-call t (Some e) (Some n) = refl
+poll-call t (Some e) None = refl
+poll-call t None y = refl
 
-ack-call : (k : ReadKey) → is_call (ack_event k) ≡ true
-ack-call (IsKey k) = refl
-ack-call WrongKey = refl
+ack-call : (k : Option AckKey) → is_call (ack_event k) ≡ true
+ack-call (Some k) = refl
+ack-call None = refl
 
 route-call : (a b : Bool) (t d n : ℕ) → is_call (pick a Malformed (pick b (OnRoute t d n) Malformed)) ≡ true
 route-call true b t d n = refl
 route-call false true t d n = refl
 route-call false false t d n = refl
 
-drop-call : (x : Read64) (n : ℕ) → is_call (drop_with x n) ≡ true
-drop-call (Is64 e) n = refl
-drop-call Wrong64 n = refl
+drop-call : (x : Option (Option ℕ)) (n : ℕ) → is_call (drop_with x n) ≡ true
+drop-call (Some e) n = refl
+drop-call None n = refl
 
-awaiting-call : (a : ReadAddress) → is_call (awaiting_event a) ≡ true
-awaiting-call (IsAddress Absent) = refl
-awaiting-call (IsAddress (Short x)) = refl
-awaiting-call (IsAddress (Extended x)) = refl
-awaiting-call WrongAddress = refl
+awaiting-call : (a : Option Address) → is_call (awaiting_event a) ≡ true
+awaiting-call (Some Absent) = refl
+awaiting-call (Some (Short x)) = refl
+awaiting-call (Some (Extended x)) = refl
+awaiting-call None = refl
 
 -- ---- by the kind
 

@@ -1,5 +1,6 @@
 -- The lists that a call puts into lent arrays, as answers: the items of an array's front have the bytes of the items of the list, and how long they are.
 -- Assumes nothing.
+use Rattle.std.specs.Prelude.{Option, None, Some}
 use Prim.Native.Nat.{ℕ, zero, suc, ◌+◌, ◌-◌, ◌*◌, ◌/◌, ◌%◌, ◌^◌, ◌≤◌, ◌<◌}
 use native.Mathlib.Nat.{mul_assoc, mul_comm, pow-suc, zero-add}
 use native.Mathlib.Omega.{arith}
@@ -21,8 +22,6 @@ use Rattle.codes.specs.Codes.{flag, quorum_word, quorum_from, schedule_from}
 use Rattle.codes.proofs.Backs.{quorum-back}
 use Rattle.tables.specs.Layouts.{unicast_table, destination_table, broadcast_table, broadcast_layout, broadcast_head}
 use Rattle.records.specs.declared.Schedule.TheVariants.{Once, PassiveAck, FixedInterval}
-use Rattle.casting.specs.declared.Awaited.{Awaited}
-use Rattle.casting.specs.declared.Awaited.TheVariants.{NotAwaited, Awaits}
 use Rattle.casting.specs.Rules.{awaited_by, awaited_head, listed, awaited_of}
 use Rattle.sending.specs.Members.{map_fits}
 use Rattle.model.specs.Steps.{members_of}
@@ -145,9 +144,9 @@ pub awaited-few : (bs : List Broadcast) → length (awaited_of bs) ≤ length bs
 awaited-few [] = omega arith
 awaited-few (b ∷ bs) = go (awaited_head (broadcast_head b)) (awaited-few bs)
   where
-    go : (x : Awaited) → length (awaited_of bs) ≤ length bs → length (listed x (awaited_of bs)) ≤ suc (length bs)
-    go NotAwaited h = omega arith
-    go (Awaits k) h = omega arith
+    go : (x : Option QuorumKey) → length (awaited_of bs) ≤ length bs → length (listed x (awaited_of bs)) ≤ suc (length bs)
+    go None h = omega arith
+    go (Some k) h = omega arith
 
 -- the key that a broadcast awaits, if any, is narrow
 abbrev Asks : Broadcast → Type 0
@@ -157,9 +156,9 @@ asks-narrow : (bs : List Broadcast) → All Asks bs → All Narrow (awaited_of b
 asks-narrow [] a = tt
 asks-narrow (b ∷ bs) a = go (awaited_head (broadcast_head b)) a.0 (asks-narrow bs a.1)
   where
-    go : (x : Awaited) → All Narrow (listed x []) → All Narrow (awaited_of bs) → All Narrow (listed x (awaited_of bs))
-    go NotAwaited h r = r
-    go (Awaits k) h r = (h.0, r)
+    go : (x : Option QuorumKey) → All Narrow (listed x []) → All Narrow (awaited_of bs) → All Narrow (listed x (awaited_of bs))
+    go None h r = r
+    go (Some k) h r = (h.0, r)
 
 schedule-narrow : (heard : Bool) (tag copies what next : ℕ) → All Narrow (listed (awaited_by heard (schedule_from tag copies what next)) [])
 schedule-narrow heard tag copies what next = go (eqb tag 0) (eqb tag 1) heard

@@ -1,4 +1,5 @@
 -- What a turn makes of the world: a call of the tables, an abandon, a pair, the lists; and that the world stays sound. Assumes nothing.
+use Rattle.std.specs.Prelude.{Option, None, Some}
 use Prim.Native.Nat.{ℕ, ◌≤◌}
 use native.Mathlib.Omega.{arith}
 use mathlib.Core.Path.{◌≡◌, refl, sym, ap, ap₂, subst, ◌∙◌}
@@ -25,7 +26,7 @@ use Rattle.replies.specs.Replies.{acts_of, reply_items}
 use Rattle.replies.proofs.Backs.{told-acts}
 use Rattle.listings.specs.Maps.{keys_with, shorts_with, MapSound, map_full, pairs_after, PairPut}
 use Rattle.listings.proofs.Pairings.{pairs-long, take-front}
-use Rattle.exchange.specs.Types.{Counts, Did, Abandoned, Entry, Settings, Resolved, NoPlace, Item, Refused, Done, ShortAddress, ExtendedAddress, Shorts, Longs, Paired, NoPlaceLeft, Pairs, Left, Event, OnSettings, OnUnicast, OnCopy, OnUnrouted, OnBroadcast, OnDequeue, OnReport, OnPoll, OnAck, OnRetry, OnFail, OnRoute, OnDelivered, OnDrop, OnCancel, OnTick, OnAbandon, OnNextWake, OnPair, OnLists, OnHasUnrouted, OnHasAwaiting, Malformed}
+use Rattle.exchange.specs.Types.{Counts, Did, Abandoned, Entry, Settings, Resolved, NoPlace, Item, Refused, Done, ShortAddress, ExtendedAddress, Shorts, Longs, Left, Event, OnSettings, OnUnicast, OnCopy, OnUnrouted, OnBroadcast, OnDequeue, OnReport, OnPoll, OnAck, OnRetry, OnFail, OnRoute, OnDelivered, OnDrop, OnCancel, OnTick, OnAbandon, OnNextWake, OnPair, OnLists, OnHasUnrouted, OnHasAwaiting, Malformed}
 use Rattle.exchange.specs.World.{World, Step, with_model, abandonment, called, list_items, step_on, world_of}
 use Rattle.exchange.specs.Gathered.{listed_items}
 use Rattle.sending.specs.Members.{map_fits}
@@ -117,17 +118,17 @@ module _ (m : Model) (s : Settings) (rs : List Resolved) (sound : SoundModel m) 
 
 -- ---- a pair
 
-abbrev is_barred : Paired → Bool
-is_barred NoPlaceLeft = true
-is_barred (Pairs m) = false
+abbrev is_barred : Option ℕ → Bool
+is_barred None = true
+is_barred (Some m) = false
 
 -- the lists of the new map
-pair-lists : {x y n m : ℕ} {es ns es' ns' : List ℕ} {r : Paired} → MapSound es ns n → PairPut x y n es ns es' ns' r → r ≡ Pairs m
+pair-lists : {x y n m : ℕ} {es ns es' ns' : List ℕ} {r : Option ℕ} → MapSound es ns n → PairPut x y n es ns es' ns' r → r ≡ Some m
     → (take m es' ≡ keys_with x (take n es)) × (take m ns' ≡ shorts_with x y (take n es) (take n ns))
 pair-lists {x} {y} {n} {m} {es} {ns} {es'} {ns'} {r} s p e = by-test (map_full x es n) refl
   where
     by-test : (b : Bool) → map_full x es n ≡ b → (take m es' ≡ keys_with x (take n es)) × (take m ns' ≡ shorts_with x y (take n es) (take n ns))
-    by-test true f = absurd (no (sym (ap is_barred e) ∙ ap is_barred (p.answer ∙ ap (λ (b : Bool). pick b NoPlaceLeft (Pairs (length (keys_with x (take n es))))) f)))
+    by-test true f = absurd (no (sym (ap is_barred e) ∙ ap is_barred (p.answer ∙ ap (λ (b : Bool). pick b None (Some (length (keys_with x (take n es))))) f)))
     by-test false f =
         let ks : List ℕ = keys_with x (take n es) in
         let ss : List ℕ = shorts_with x y (take n es) (take n ns) in
@@ -137,7 +138,7 @@ pair-lists {x} {y} {n} {m} {es} {ns} {es'} {ns'} {r} s p e = by-test (map_full x
         let l : length (take n es) ≡ length (take n ns) = length-take-le n es (omega arith) ∙ sym (length-take-le n ns (omega arith)) in
         let h : length ks ≤ 32 = ltb-false 32 (length ks) f in
         let j : length ss ≡ length ks = pairs-long x y (take n es) (take n ns) l in
-        let i : m ≡ length ks = ap (pairs_after 0) (sym e ∙ p.answer ∙ ap (λ (b : Bool). pick b NoPlaceLeft (Pairs (length ks))) f) in (
+        let i : m ≡ length ks = ap (pairs_after 0) (sym e ∙ p.answer ∙ ap (λ (b : Bool). pick b None (Some (length ks))) f) in (
           ap₂ (λ (k : ℕ) (v : List ℕ). take k v) i (p.keys ∙ ap (λ (b : Bool). pick b es (sets es 0 ks)) f) ∙ take-front es ks (omega arith),
           ap₂ (λ (k : ℕ) (v : List ℕ). take k v) (i ∙ sym j) (p.shorts ∙ ap (λ (b : Bool). pick b ns (sets ns 0 ss)) f) ∙ take-front ns ss (omega arith),
         )
@@ -210,8 +211,8 @@ module _ {c : Counts} {ws vs ds bs es ns buf : List ℕ} {pairs : ℕ} (ready : 
       }
 
   -- a pair that is barred, and one that is put
-  module _ {x y : ℕ} {es' ns' : List ℕ} {p : Paired} (h : PairPut x y pairs es ns es' ns' p) {at : ℕ} {out out' : List ℕ} {r : ℕ} where
-    pub turned-barred : p ≡ NoPlaceLeft → Answering (Refused NoPlace ∷ []) at out out' r
+  module _ {x y : ℕ} {es' ns' : List ℕ} {p : Option ℕ} (h : PairPut x y pairs es ns es' ns' p) {at : ℕ} {out out' : List ℕ} {r : ℕ} where
+    pub turned-barred : p ≡ None → Answering (Refused NoPlace ∷ []) at out out' r
         → Turned (step_on here (OnPair x y) []) at out ws vs ds bs es' ns' buf out' (record { counts = c; settings = s; pairs = pairs; wrote = r })
     turned-barred e a = by-test (map_full x es pairs) refl
       where
@@ -225,12 +226,12 @@ module _ {c : Counts} {ws vs ds bs es ns buf : List ℕ} {pairs : ℕ} (ready : 
             rw f
             (record {
               world = ap₂ (λ (u v : List ℕ). world_of c ws vs ds bs s u v pairs) k n;
-              ready = record { tables = ready.tables; model = ready.model; map = subst (λ (q : Paired). MapSound es' ns' (pairs_after pairs q)) e h.sound; buffer = ready.buffer };
+              ready = record { tables = ready.tables; model = ready.model; map = subst (λ (q : Option ℕ). MapSound es' ns' (pairs_after pairs q)) e h.sound; buffer = ready.buffer };
               answers = a;
             })
-        by-test false f = absurd (no (sym (ap is_barred (h.answer ∙ ap (λ (b : Bool). pick b NoPlaceLeft (Pairs (length (keys_with x (take pairs es))))) f)) ∙ ap is_barred e))
+        by-test false f = absurd (no (sym (ap is_barred (h.answer ∙ ap (λ (b : Bool). pick b None (Some (length (keys_with x (take pairs es))))) f)) ∙ ap is_barred e))
 
-    pub turned_pair : {m : ℕ} → p ≡ Pairs m → Answering (Done ∷ []) at out out' r
+    pub turned_pair : {m : ℕ} → p ≡ Some m → Answering (Done ∷ []) at out out' r
         → Turned (step_on here (OnPair x y) []) at out ws vs ds bs es' ns' buf out' (record { counts = c; settings = s; pairs = m; wrote = r })
     turned_pair {m} e a = by-test (map_full x es pairs) refl
       where
@@ -246,10 +247,10 @@ module _ {c : Counts} {ws vs ds bs es ns buf : List ℕ} {pairs : ℕ} (ready : 
             rw f
             (record {
               world = ap₂ (λ (u v : List ℕ). record { model = here.model; settings = s; longs = u; shorts = v }) q.0 q.1;
-              ready = record { tables = ready.tables; model = ready.model; map = subst (λ (q : Paired). MapSound es' ns' (pairs_after pairs q)) e h.sound; buffer = ready.buffer };
+              ready = record { tables = ready.tables; model = ready.model; map = subst (λ (q : Option ℕ). MapSound es' ns' (pairs_after pairs q)) e h.sound; buffer = ready.buffer };
               answers = a;
             })
-        by-test true f = absurd (no (sym (ap is_barred e) ∙ ap is_barred (h.answer ∙ ap (λ (b : Bool). pick b NoPlaceLeft (Pairs (length ks))) f)))
+        by-test true f = absurd (no (sym (ap is_barred e) ∙ ap is_barred (h.answer ∙ ap (λ (b : Bool). pick b None (Some (length ks))) f)))
 
   -- the tables, the map and the buffer as they were
   pub turned-still : {st : Step} {at : ℕ} {out out' : List ℕ} {s' : Settings} {r : ℕ} → world_of c ws vs ds bs s' es ns pairs ≡ st.world → Answering st.items at out out' r

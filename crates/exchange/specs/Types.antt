@@ -1,6 +1,4 @@
 -- The declared types that a turn speaks of and their variants, under one name.
-pub use Rattle.records.specs.declared.Opt64.{Opt64}
-pub use Rattle.records.specs.declared.Opt64.TheVariants.{None64, Some64}
 pub use Rattle.records.specs.declared.Settings.{Settings}
 pub use Rattle.records.specs.declared.Unicast.{Unicast}
 pub use Rattle.records.specs.declared.Destination.{Destination}
@@ -15,8 +13,6 @@ pub use Rattle.model.specs.declared.Abandoned.{Abandoned}
 pub use Rattle.model.specs.declared.Resolved.{Resolved}
 pub use Rattle.answers.specs.declared.Item.{Item}
 pub use Rattle.answers.specs.declared.Item.TheVariants.{Refused, Done, ShortAddress, ExtendedAddress, Key, Abandonment, DestinationAddress}
-pub use Rattle.listings.specs.declared.maps.Paired.{Paired}
-pub use Rattle.listings.specs.declared.maps.Paired.TheVariants.{NoPlaceLeft, Pairs}
 pub use Rattle.events.specs.declared.Event.{Event}
 pub use Rattle.events.specs.declared.Event.TheVariants.{OnSettings, OnUnicast, OnCopy, OnUnrouted, OnBroadcast, OnDequeue, OnReport, OnPoll, OnAck, OnRetry, OnFail, OnRoute, OnDelivered, OnDrop, OnCancel, OnTick, OnAbandon, OnNextWake, OnPair, OnLists, OnHasUnrouted, OnHasAwaiting, Malformed}
 pub use Rattle.exchange.specs.declared.Left.{Left}

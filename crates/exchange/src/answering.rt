@@ -8,7 +8,7 @@ ghost use Rattle.exchange.specs.Answering.{Answering};
 ghost use Rattle.exchange.specs.Types.{Refused, Done};
 
 use model::Answer;
-use records::{Opt64, Refusal};
+use records::Refusal;
 
 // A call's answer and the n actions that it told. Called from one place alone, so that it is compiled into the run's loop
 // (docs/PERFORMANCE.md).
@@ -47,17 +47,17 @@ pub(crate) fn answer_refused(out: &mut [u8], at: usize, x: Refusal) -> usize
 }
 
 // How many bytes the answer to a question of time takes.
-fn wake_length(o: Opt64) -> usize
+fn wake_length(o: Option<u64>) -> usize
     ensures { result ≡ length (items_bytes (wake_items o)) }
 {
     match o {
-        Opt64::None64 => 0,
-        Opt64::Some64(_) => 9,
+        None => 0,
+        Some(_) => 9,
     }
 }
 
 // The time of the next wake, if there is one.
-pub(crate) fn answer_wake(out: &mut [u8], at: usize, o: Opt64) -> usize
+pub(crate) fn answer_wake(out: &mut [u8], at: usize, o: Option<u64>) -> usize
     requires { at + 6 ≤ length out.old }
     ensures { Answering (wake_items o ++ (Done ∷ [])) at out.old out.new result }
 {

@@ -10,7 +10,6 @@ ghost use Rattle.exchange.specs.World.{world_of, is_own, step_on};
 ghost use Rattle.exchange.specs.Turns.{Ready, Turned};
 ghost use Rattle.exchange.specs.Types.{OnAbandon, OnPair};
 
-use listings::maps::Paired;
 use model::Counts;
 use records::{Refusal, Settings};
 
@@ -49,7 +48,7 @@ fn pair(
     ensures { Turned (step_on (world_of c w.old v.old d.old b.old s eui.old nwk.old pairs) (OnPair x y) []) at out.old w.new v.new d.new b.new eui.new nwk.new told.new out.new result }
 {
     match listings::maps::put_pair(eui, nwk, pairs, x, y) {
-        Paired::NoPlaceLeft => {
+        None => {
             let wrote = answering::answer_refused(out, at, Refusal::NoPlace);
             Left {
                 counts: c,
@@ -58,7 +57,7 @@ fn pair(
                 wrote,
             }
         }
-        Paired::Pairs(n) => {
+        Some(n) => {
             let wrote = answering::answer_done(out, at);
             Left {
                 counts: c,

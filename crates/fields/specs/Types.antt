@@ -1,7 +1,4 @@
 -- The declared types that the parts of a body speak of, and their variants, under one name.
-pub use Rattle.records.specs.declared.Opt8.TheVariants.{None8, Some8}
-pub use Rattle.records.specs.declared.Opt16.TheVariants.{None16, Some16}
-pub use Rattle.records.specs.declared.Opt64.TheVariants.{None64, Some64}
 pub use Rattle.records.specs.declared.Address.TheVariants.{Absent, Short, Extended}
 pub use Rattle.records.specs.declared.Priority.TheVariants.{Background, UserLow, UserNormal, UserHigh, UserCritical, StackCritical}
 pub use Rattle.records.specs.declared.Confirm.TheVariants.{OnHandoff, ApsAck}
@@ -9,23 +6,3 @@ pub use Rattle.records.specs.declared.QuorumKey.{QuorumKey}
 pub use Rattle.records.specs.declared.Schedule.TheVariants.{Once, PassiveAck, FixedInterval}
 pub use Rattle.records.specs.declared.TxResult.TheVariants.{Sent, Failed}
 pub use Rattle.model.specs.declared.Lender.TheVariants.{FromUnicasts, FromBroadcasts}
-pub use Rattle.fields.specs.declared.Read8.{Read8}
-pub use Rattle.fields.specs.declared.Read8.TheVariants.{Is8, Wrong8}
-pub use Rattle.fields.specs.declared.Read16.{Read16}
-pub use Rattle.fields.specs.declared.Read16.TheVariants.{Is16, Wrong16}
-pub use Rattle.fields.specs.declared.Read64.{Read64}
-pub use Rattle.fields.specs.declared.Read64.TheVariants.{Is64, Wrong64}
-pub use Rattle.fields.specs.declared.ReadPriority.{ReadPriority}
-pub use Rattle.fields.specs.declared.ReadPriority.TheVariants.{IsPriority, WrongPriority}
-pub use Rattle.fields.specs.declared.ReadAddress.{ReadAddress}
-pub use Rattle.fields.specs.declared.ReadAddress.TheVariants.{IsAddress, WrongAddress}
-pub use Rattle.fields.specs.declared.ReadKey.{ReadKey}
-pub use Rattle.fields.specs.declared.ReadKey.TheVariants.{IsKey, WrongKey}
-pub use Rattle.fields.specs.declared.ReadConfirm.{ReadConfirm}
-pub use Rattle.fields.specs.declared.ReadConfirm.TheVariants.{IsConfirm, WrongConfirm}
-pub use Rattle.fields.specs.declared.ReadResult.{ReadResult}
-pub use Rattle.fields.specs.declared.ReadResult.TheVariants.{IsResult, WrongResult}
-pub use Rattle.fields.specs.declared.ReadLender.{ReadLender}
-pub use Rattle.fields.specs.declared.ReadLender.TheVariants.{IsLender, WrongLender}
-pub use Rattle.fields.specs.declared.ReadSchedule.{ReadSchedule}
-pub use Rattle.fields.specs.declared.ReadSchedule.TheVariants.{IsSchedule, WrongSchedule}

@@ -4,105 +4,99 @@ ghost use Rattle.fields.specs.Bytes.{number};
 ghost use Rattle.fields.specs.Parts.{opt8_by, opt16_by, opt64_by, priority_by, address_by, address_at, key_with, key_at, confirm_with, confirm_at, result_by, lender_by, all_zero, once_by, passive_by, fixed_by, schedule_by, schedule_at};
 
 use crate::numbers::{byte_at, u16_at, u32_at, u64_at};
-use crate::{
-    Read8, Read16, Read64, ReadAddress, ReadConfirm, ReadKey, ReadLender, ReadPriority, ReadResult,
-    ReadSchedule,
-};
 use model::Lender;
-use records::{
-    AckKey, Address, Confirm, Opt8, Opt16, Opt64, Priority, QuorumKey, Schedule, TxResult,
-};
+use records::{AckKey, Address, Confirm, Priority, QuorumKey, Schedule, TxResult};
 
 // ---- optional numbers, by a flag
 
-pub(crate) fn opt8_by(flag: u8, x: u8) -> Read8
+pub(crate) fn opt8_by(flag: u8, x: u8) -> Option<Option<u8>>
     ensures { result ≡ opt8_by flag x }
 {
     match flag {
         0 => {
             if x == 0 {
-                Read8::Is8(Opt8::None8)
+                Some(None)
             } else {
-                Read8::Wrong8
+                None
             }
         }
-        1 => Read8::Is8(Opt8::Some8(x)),
-        _ => Read8::Wrong8,
+        1 => Some(Some(x)),
+        _ => None,
     }
 }
 
-pub fn opt16_by(flag: u8, x: u16) -> Read16
+pub fn opt16_by(flag: u8, x: u16) -> Option<Option<u16>>
     ensures { result ≡ opt16_by flag x }
 {
     match flag {
         0 => {
             if x == 0 {
-                Read16::Is16(Opt16::None16)
+                Some(None)
             } else {
-                Read16::Wrong16
+                None
             }
         }
-        1 => Read16::Is16(Opt16::Some16(x)),
-        _ => Read16::Wrong16,
+        1 => Some(Some(x)),
+        _ => None,
     }
 }
 
-pub fn opt64_by(flag: u8, x: u64) -> Read64
+pub fn opt64_by(flag: u8, x: u64) -> Option<Option<u64>>
     ensures { result ≡ opt64_by flag x }
 {
     match flag {
         0 => {
             if x == 0 {
-                Read64::Is64(Opt64::None64)
+                Some(None)
             } else {
-                Read64::Wrong64
+                None
             }
         }
-        1 => Read64::Is64(Opt64::Some64(x)),
-        _ => Read64::Wrong64,
+        1 => Some(Some(x)),
+        _ => None,
     }
 }
 
 // ---- a level, an address
 
-pub fn priority_by(rank: u8) -> ReadPriority
+pub fn priority_by(rank: u8) -> Option<Priority>
     ensures { result ≡ priority_by rank }
 {
     match rank {
-        0 => ReadPriority::IsPriority(Priority::Background),
-        1 => ReadPriority::IsPriority(Priority::UserLow),
-        2 => ReadPriority::IsPriority(Priority::UserNormal),
-        3 => ReadPriority::IsPriority(Priority::UserHigh),
-        4 => ReadPriority::IsPriority(Priority::UserCritical),
-        5 => ReadPriority::IsPriority(Priority::StackCritical),
-        _ => ReadPriority::WrongPriority,
+        0 => Some(Priority::Background),
+        1 => Some(Priority::UserLow),
+        2 => Some(Priority::UserNormal),
+        3 => Some(Priority::UserHigh),
+        4 => Some(Priority::UserCritical),
+        5 => Some(Priority::StackCritical),
+        _ => None,
     }
 }
 
-pub(crate) fn address_by(tag: u8, x: u64) -> ReadAddress
+pub(crate) fn address_by(tag: u8, x: u64) -> Option<Address>
     ensures { result ≡ address_by tag x }
 {
     match tag {
         0 => {
             if x == 0 {
-                ReadAddress::IsAddress(Address::Absent)
+                Some(Address::Absent)
             } else {
-                ReadAddress::WrongAddress
+                None
             }
         }
         1 => {
             if x <= 65535 {
-                ReadAddress::IsAddress(Address::Short(x as u16))
+                Some(Address::Short(x as u16))
             } else {
-                ReadAddress::WrongAddress
+                None
             }
         }
-        2 => ReadAddress::IsAddress(Address::Extended(x)),
-        _ => ReadAddress::WrongAddress,
+        2 => Some(Address::Extended(x)),
+        _ => None,
     }
 }
 
-pub fn address_at(b: &[u8], at: usize) -> ReadAddress
+pub fn address_at(b: &[u8], at: usize) -> Option<Address>
     requires { at + 9 ≤ length b.now }
     ensures { result ≡ address_at at b.now }
 {
@@ -113,19 +107,19 @@ pub fn address_at(b: &[u8], at: usize) -> ReadAddress
 
 pub(crate) fn key_with(
     src: u16,
-    destination: Read8,
-    cluster: Read16,
-    profile: Read16,
-    source: Read8,
+    destination: Option<Option<u8>>,
+    cluster: Option<Option<u16>>,
+    profile: Option<Option<u16>>,
+    source: Option<Option<u8>>,
     counter: u8,
-) -> ReadKey
+) -> Option<AckKey>
     ensures { result ≡ key_with src destination cluster profile source counter }
 {
     match destination {
-        Read8::Is8(destination_endpoint) => match cluster {
-            Read16::Is16(cluster_id) => match profile {
-                Read16::Is16(profile_id) => match source {
-                    Read8::Is8(source_endpoint) => ReadKey::IsKey(AckKey {
+        Some(destination_endpoint) => match cluster {
+            Some(cluster_id) => match profile {
+                Some(profile_id) => match source {
+                    Some(source_endpoint) => Some(AckKey {
                         src,
                         destination_endpoint,
                         cluster_id,
@@ -133,23 +127,23 @@ pub(crate) fn key_with(
                         source_endpoint,
                         counter,
                     }),
-                    Read8::Wrong8 => ReadKey::WrongKey,
+                    None => None,
                 },
-                Read16::Wrong16 => ReadKey::WrongKey,
+                None => None,
             },
-            Read16::Wrong16 => ReadKey::WrongKey,
+            None => None,
         },
-        Read8::Wrong8 => ReadKey::WrongKey,
+        None => None,
     }
 }
 
-pub fn key_at(b: &[u8], at: usize) -> ReadKey
+pub fn key_at(b: &[u8], at: usize) -> Option<AckKey>
     requires { at + 10 ≤ length b.now }
     ensures { result ≡ key_at at b.now }
 {
     let bits = byte_at(b, at);
     if 15 < bits {
-        return ReadKey::WrongKey;
+        return None;
     }
     let src = u16_at(b, at + 1);
     let destination = opt8_by(bits % 2, byte_at(b, at + 3));
@@ -179,26 +173,26 @@ pub fn blank_at(b: &[u8], at: usize) -> bool
     third == 0
 }
 
-pub(crate) fn confirm_with(tag: u8, blank: bool, key: ReadKey, wait: u32) -> ReadConfirm
+pub(crate) fn confirm_with(tag: u8, blank: bool, key: Option<AckKey>, wait: u32) -> Option<Confirm>
     ensures { result ≡ confirm_with tag blank key wait }
 {
     match tag {
         0 => {
             if blank {
-                ReadConfirm::IsConfirm(Confirm::OnHandoff)
+                Some(Confirm::OnHandoff)
             } else {
-                ReadConfirm::WrongConfirm
+                None
             }
         }
         1 => match key {
-            ReadKey::IsKey(k) => ReadConfirm::IsConfirm(Confirm::ApsAck(k, wait)),
-            ReadKey::WrongKey => ReadConfirm::WrongConfirm,
+            Some(k) => Some(Confirm::ApsAck(k, wait)),
+            None => None,
         },
-        _ => ReadConfirm::WrongConfirm,
+        _ => None,
     }
 }
 
-pub fn confirm_at(b: &[u8], at: usize) -> ReadConfirm
+pub fn confirm_at(b: &[u8], at: usize) -> Option<Confirm>
     requires { at + 15 ≤ length b.now }
     ensures { result ≡ confirm_at at b.now }
 {
@@ -211,29 +205,29 @@ pub fn confirm_at(b: &[u8], at: usize) -> ReadConfirm
 
 // ---- what the radio reports, and of which table
 
-pub fn result_by(tag: u8, code: u16) -> ReadResult
+pub fn result_by(tag: u8, code: u16) -> Option<TxResult>
     ensures { result ≡ result_by tag code }
 {
     match tag {
         0 => {
             if code == 0 {
-                ReadResult::IsResult(TxResult::Sent)
+                Some(TxResult::Sent)
             } else {
-                ReadResult::WrongResult
+                None
             }
         }
-        1 => ReadResult::IsResult(TxResult::Failed(code)),
-        _ => ReadResult::WrongResult,
+        1 => Some(TxResult::Failed(code)),
+        _ => None,
     }
 }
 
-pub fn lender_by(flag: u8) -> ReadLender
+pub fn lender_by(flag: u8) -> Option<Lender>
     ensures { result ≡ lender_by flag }
 {
     match flag {
-        0 => ReadLender::IsLender(Lender::FromUnicasts),
-        1 => ReadLender::IsLender(Lender::FromBroadcasts),
-        _ => ReadLender::WrongLender,
+        0 => Some(Lender::FromUnicasts),
+        1 => Some(Lender::FromBroadcasts),
+        _ => None,
     }
 }
 
@@ -257,40 +251,40 @@ fn all_zero(src: u16, sequence: u8, interval: u32, copies: u8, next: u64) -> boo
     next == 0
 }
 
-fn once_by(blank: bool) -> ReadSchedule
+fn once_by(blank: bool) -> Option<Schedule>
     ensures { result ≡ once_by blank }
 {
     if blank {
-        ReadSchedule::IsSchedule(Schedule::Once)
+        Some(Schedule::Once)
     } else {
-        ReadSchedule::WrongSchedule
+        None
     }
 }
 
-fn passive_by(key: QuorumKey, interval: u32, copies: u8, next: u64) -> ReadSchedule
+fn passive_by(key: QuorumKey, interval: u32, copies: u8, next: u64) -> Option<Schedule>
     ensures { result ≡ passive_by key interval copies next }
 {
     if interval == 0 {
-        ReadSchedule::IsSchedule(Schedule::PassiveAck {
+        Some(Schedule::PassiveAck {
             key,
             copies_remaining: copies,
             next_attempt: next,
         })
     } else {
-        ReadSchedule::WrongSchedule
+        None
     }
 }
 
-fn fixed_by(src: u16, sequence: u8, interval: u32, copies: u8, next: u64) -> ReadSchedule
+fn fixed_by(src: u16, sequence: u8, interval: u32, copies: u8, next: u64) -> Option<Schedule>
     ensures { result ≡ fixed_by src sequence interval copies next }
 {
     if src != 0 {
-        return ReadSchedule::WrongSchedule;
+        return None;
     }
     if sequence != 0 {
-        return ReadSchedule::WrongSchedule;
+        return None;
     }
-    ReadSchedule::IsSchedule(Schedule::FixedInterval {
+    Some(Schedule::FixedInterval {
         interval,
         copies_remaining: copies,
         next_attempt: next,
@@ -304,18 +298,18 @@ pub(crate) fn schedule_by(
     interval: u32,
     copies: u8,
     next: u64,
-) -> ReadSchedule
+) -> Option<Schedule>
     ensures { result ≡ schedule_by tag src sequence interval copies next }
 {
     match tag {
         0 => once_by(all_zero(src, sequence, interval, copies, next)),
         1 => passive_by(QuorumKey { src, sequence }, interval, copies, next),
         2 => fixed_by(src, sequence, interval, copies, next),
-        _ => ReadSchedule::WrongSchedule,
+        _ => None,
     }
 }
 
-pub fn schedule_at(b: &[u8], at: usize) -> ReadSchedule
+pub fn schedule_at(b: &[u8], at: usize) -> Option<Schedule>
     requires { at + 17 ≤ length b.now }
     ensures { result ≡ schedule_at at b.now }
 {

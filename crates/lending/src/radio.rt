@@ -7,8 +7,7 @@ ghost use Rattle.model.specs.declared.Lender.TheVariants.{FromUnicasts, FromBroa
 ghost use Rattle.lending.specs.Choices.{chosen_of};
 
 use model::{Answer, Counts, Did, Lender, Transmit};
-use records::{Opt32, Refusal, TxResult};
-use sending::{Best, Loan};
+use records::{Refusal, TxResult};
 use unicasts::Outcome;
 
 // The send that goes to the radio, if one does.
@@ -30,17 +29,17 @@ fn unicast_first(i: u32, p: u8, j: u32, q: u8) -> bool
 }
 
 // Which of the best queued of either table goes first: the one of higher priority, and of equals the older.
-fn choose(x: Best, y: casting::Best) -> Chosen
+fn choose(x: Option<(u32, Priority)>, y: Option<(u32, u8)>) -> Chosen
     ensures { result ≡ chosen_of x y }
 {
     match x {
-        Best::NoneReady => match y {
-            casting::Best::NoBest => Chosen::NoSend,
-            casting::Best::BestIs(j, _) => Chosen::OneBroadcast(j),
+        None => match y {
+            None => Chosen::NoSend,
+            Some((j, _)) => Chosen::OneBroadcast(j),
         },
-        Best::Ready(i, p) => match y {
-            casting::Best::NoBest => Chosen::OneUnicast(i),
-            casting::Best::BestIs(j, q) => {
+        Some((i, p)) => match y {
+            None => Chosen::OneUnicast(i),
+            Some((j, q)) => {
                 if unicast_first(i, records::priorities::rank(p), j, q) {
                     return Chosen::OneUnicast(i);
                 }
@@ -50,23 +49,23 @@ fn choose(x: Best, y: casting::Best) -> Chosen
     }
 }
 
-fn flight(id: u32, x: Loan) -> Answer
+fn flight(id: u32, x: Option<(u32, u16, bool)>) -> Answer
     ensures { result ≡ flight_of id x }
 {
     match x {
-        Loan::NoLoan => Answer::NothingQueued,
-        Loan::Lent(frame, hop, pending) => {
+        None => Answer::NothingQueued,
+        Some((frame, hop, pending)) => {
             Answer::InFlight(id, frame, Transmit::Unicasting(hop, pending))
         }
     }
 }
 
-fn cast(id: u32, x: Opt32) -> Answer
+fn cast(id: u32, x: Option<u32>) -> Answer
     ensures { result ≡ cast_of id x }
 {
     match x {
-        Opt32::None32 => Answer::NothingQueued,
-        Opt32::Some32(frame) => Answer::InFlight(id, frame, Transmit::Broadcasting),
+        None => Answer::NothingQueued,
+        Some(frame) => Answer::InFlight(id, frame, Transmit::Broadcasting),
     }
 }
 

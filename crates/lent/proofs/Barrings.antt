@@ -1,14 +1,12 @@
 -- What bars a cancel, and whether a search found a record. Assumes nothing.
+use Rattle.std.specs.Prelude.{Option, None, Some}
 use Prim.Native.Nat.{ℕ}
 use mathlib.Core.Path.{◌≡◌, refl, sym, subst, ◌∙◌}
 use mathlib.Core.Bool.{Bool, true, false, ◌||◌}
 use mathlib.Core.List.{List}
-use mathlib.Core.Option.{Option, none, some}
 use lib.Dec.{eqb}
 use Rattle.records.specs.Pick.{pick}
 use Rattle.records.specs.declared.Refusal.TheVariants.{InTheRadio}
-use Rattle.rows.specs.declared.Place.{Place}
-use Rattle.rows.specs.declared.Place.TheVariants.{Nowhere, Here}
 use Rattle.rows.specs.Lists.{find_by, place_at}
 use Rattle.rows.specs.Moves.{Turn, any_of}
 use Rattle.rows.specs.Moves.Turn.{Keeps}
@@ -25,7 +23,7 @@ use Rattle.doing.proofs.Doings.{does-deny}
 
 module _ {c : Counts} {ws vs ds bs : List ℕ} (s : SoundTables c ws vs ds bs) where
   -- something bars it: every lent word stays
-  pub does-barred : {o : Option Refusal} {ws' bs' buf buf' : List ℕ} {r : Did} (e : Effect) (x : Refusal) → o ≡ some x → ws' ≡ ws → bs' ≡ bs → buf' ≡ buf → r ≡ denied_by c x
+  pub does-barred : {o : Option Refusal} {ws' bs' buf buf' : List ℕ} {r : Did} (e : Effect) (x : Refusal) → o ≡ Some x → ws' ≡ ws → bs' ≡ bs → buf' ≡ buf → r ≡ denied_by c x
       → Does (unless (lent_model c ws vs ds bs) o e) buf ws' vs ds bs' buf' r
   does-barred e x p q b t d = rw (p, q, b, t) (does-deny s x d)
 
@@ -36,25 +34,25 @@ module _ {bar : Option Broadcast → Option Refusal} {f : Broadcast → Turn Bro
   answered-as x e = subst (λ (y : casts.Outcome). Answered id bar f bs n buf m bs' buf' y) e h
 
 -- whether a search found a record is whether there is one
-module _ {A : Type 0} (key : A → ℕ) (k : ℕ) (xs : List A) {p : Place} (e : p ≡ place_at (find_by key k xs)) where
-  pub found-any : (d : A) (i : ℕ) → p ≡ Here i → any_of (λ (x : A). eqb (key x) k) xs ≡ true
+module _ {A : Type 0} (key : A → ℕ) (k : ℕ) (xs : List A) {p : Option ℕ} (e : p ≡ place_at (find_by key k xs)) where
+  pub found-any : (d : A) (i : ℕ) → p ≡ Some i → any_of (λ (x : A). eqb (key x) k) xs ≡ true
   found-any d i h = (first_found (λ (x : A). eqb (key x) k) Keeps d xs i (sym (find_first key k xs) ∙ here-some _ i (sym h ∙ e))).any
 
-  pub missed-any : p ≡ Nowhere → any_of (λ (x : A). eqb (key x) k) xs ≡ false
+  pub missed-any : p ≡ None → any_of (λ (x : A). eqb (key x) k) xs ≡ false
   missed-any h = (first-missed (λ (x : A). eqb (key x) k) Keeps xs (sym (find_first key k xs) ∙ nowhere-none _ (sym h ∙ e))).any
 
 -- a copy in the radio bars a cancel of the broadcast, where there is one; without one its own stage decides
-pub cast-sent : (id : ℕ) (us : List Unicast) (b : Broadcast) → any_of (sent_copy id) us ≡ true → cast_bar id us (some b) ≡ some InTheRadio
+pub cast-sent : (id : ℕ) (us : List Unicast) (b : Broadcast) → any_of (sent_copy id) us ≡ true → cast_bar id us (Some b) ≡ Some InTheRadio
 cast-sent id us b e = rw e (go (in_radio b.copy))
   where
-    go : (x : Bool) → pick (x || true) (some InTheRadio) none ≡ some InTheRadio
+    go : (x : Bool) → pick (x || true) (Some InTheRadio) None ≡ Some InTheRadio
     go true = refl
     go false = refl
 
 pub cast-own : (id : ℕ) (us : List Unicast) (o : Option Broadcast) → any_of (sent_copy id) us ≡ false → cast_bar id us o ≡ cancel_bar o
-cast-own id us none e = refl
-cast-own id us (some b) e = rw e (go (in_radio b.copy))
+cast-own id us None e = refl
+cast-own id us (Some b) e = rw e (go (in_radio b.copy))
   where
-    go : (x : Bool) → pick (x || false) (some InTheRadio) none ≡ pick x (some InTheRadio) none
+    go : (x : Bool) → pick (x || false) (Some InTheRadio) None ≡ pick x (Some InTheRadio) None
     go true = refl
     go false = refl

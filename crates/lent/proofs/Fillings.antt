@@ -1,5 +1,6 @@
 -- How a loop fills a lent array: what is still to be put gives the whole. And that the next member of a source-match set past the last one given out is the
 -- next of the set's list. Assumes nothing.
+use Rattle.std.specs.Prelude.{Option, None, Some}
 use Prim.Native.Nat.{ℕ, suc, ◌+◌, ◌≤◌, ◌<◌}
 use native.Mathlib.Nat.{zero-add, add-zero}
 use native.Mathlib.Omega.{arith}
@@ -19,15 +20,13 @@ use Rattle.rows.proofs.Promises.{rising-insert}
 use Rattle.rows.proofs.Sets.{sets-append}
 use Rattle.codes.specs.Codes.{quorum_word}
 use Rattle.tables.specs.Layouts.{broadcast_table, broadcast_head}
-use Rattle.casting.specs.declared.Awaited.{Awaited}
-use Rattle.casting.specs.declared.Awaited.TheVariants.{NotAwaited, Awaits}
 use Rattle.casting.specs.Rules.{awaited_head, listed, awaited_of}
 use Rattle.casting.proofs.Scans.{row_at, awaited-turn, awaited-end}
 use Rattle.sending.specs.Members.{map_fits, member_of, is_past, least_with, next_member}
 use Rattle.model.specs.Calls.{only}
 use Rattle.model.specs.Steps.{adding, members_of}
 use Rattle.model.proofs.Kepts.{insert-length}
-use Rattle.doing.specs.Types.{Opt64, None64, Some64, QuorumKey, Unicast, Book}
+use Rattle.doing.specs.Types.{QuorumKey, Unicast, Book}
 use Rattle.lent.specs.declared.lists.Matched.TheVariants.{MapBarred, Members}
 use Rattle.lent.specs.Fills.{Filled, Matching}
 use Rattle.lent.proofs.Listings.{held_cons, held-done}
@@ -69,28 +68,28 @@ module _ {A : Type 0} {t : Table A} {ws : List ℕ} {n : ℕ} (h : Held t ws n) 
   pub left-none : n ≤ i → length (map f (drop i (live t ws n))) ≡ 0
   left-none l = ap (λ (xs : List A). length (map f xs)) (held-done h i l)
 
-module _ {x : Awaited} (out : List ℕ) (m : ℕ) where
-  pub fill-quiet : x ≡ NotAwaited → Filled m (map quorum_word (listed x [])) out out m
+module _ {x : Option QuorumKey} (out : List ℕ) (m : ℕ) where
+  pub fill-quiet : x ≡ None → Filled m (map quorum_word (listed x [])) out out m
   fill-quiet e = rw e (record { words = refl; next = sym (add-zero m) })
 
-  pub fill-key : {v : ℕ} (k : QuorumKey) → x ≡ Awaits k → v ≡ quorum_word k → Filled m (map quorum_word (listed x [])) out (set out m v) (m + 1)
+  pub fill-key : {v : ℕ} (k : QuorumKey) → x ≡ Some k → v ≡ quorum_word k → Filled m (map quorum_word (listed x [])) out (set out m v) (m + 1)
   fill-key k e q = rw (e, q) (record { words = refl; next = refl })
 
-pub key-low : (x : Awaited) → length (map quorum_word (listed x [])) ≤ 1
-key-low NotAwaited = omega arith
-key-low (Awaits k) = omega arith
+pub key-low : (x : Option QuorumKey) → length (map quorum_word (listed x [])) ≤ 1
+key-low None = omega arith
+key-low (Some k) = omega arith
 
 module _ {ws : List ℕ} {n : ℕ} (h : Held broadcast_table ws n) (i : ℕ) where
-  pub keys-left : (x : Awaited) → i < n → x ≡ awaited_head (broadcast_head (row_at ws i))
+  pub keys-left : (x : Option QuorumKey) → i < n → x ≡ awaited_head (broadcast_head (row_at ws i))
       → map quorum_word (awaited_of (drop i (live broadcast_table ws n)))
       ≡ map quorum_word (listed x []) ++ map quorum_word (awaited_of (drop (i + 1) (live broadcast_table ws n)))
   keys-left x l e =
-      ap (map quorum_word) (awaited-turn h i l ∙ ap (λ (y : Awaited). listed y (awaited_of (drop (i + 1) (live broadcast_table ws n)))) (sym e))
+      ap (map quorum_word) (awaited-turn h i l ∙ ap (λ (y : Option QuorumKey). listed y (awaited_of (drop (i + 1) (live broadcast_table ws n)))) (sym e))
       ∙ go x (awaited_of (drop (i + 1) (live broadcast_table ws n)))
     where
-      go : (y : Awaited) (ks : List QuorumKey) → map quorum_word (listed y ks) ≡ map quorum_word (listed y []) ++ map quorum_word ks
-      go NotAwaited ks = refl
-      go (Awaits k) ks = refl
+      go : (y : Option QuorumKey) (ks : List QuorumKey) → map quorum_word (listed y ks) ≡ map quorum_word (listed y []) ++ map quorum_word ks
+      go None ks = refl
+      go (Some k) ks = refl
 
   pub keys_none : n ≤ i → length (map quorum_word (awaited_of (drop i (live broadcast_table ws n)))) ≡ 0
   keys_none l = ap (λ (ks : List QuorumKey). length (map quorum_word ks)) (awaited-end h i l)
@@ -101,40 +100,40 @@ abbrev itself : ℕ → ℕ
 itself x = x
 
 -- those past the last one given out
-abbrev pub after : Opt64 → List ℕ → List ℕ
+abbrev pub after : Option ℕ → List ℕ → List ℕ
 after last xs = only (is_past last) xs
 
 abbrev tail_of : List ℕ → List ℕ
 tail_of [] = []
 tail_of (x ∷ xs) = xs
 
-abbrev head_of : List ℕ → Opt64
-head_of [] = None64
-head_of (x ∷ xs) = Some64 x
+abbrev head_of : List ℕ → Option ℕ
+head_of [] = None
+head_of (x ∷ xs) = Some x
 
 -- before any is given out, all are
-pub after_none : (xs : List ℕ) → after None64 xs ≡ xs
+pub after_none : (xs : List ℕ) → after None xs ≡ xs
 after_none [] = refl
 after_none (x ∷ xs) = ap (λ (l : List ℕ). x ∷ l) (after_none xs)
 
 -- what is past the last one stays so further up
-up : (last : Opt64) (x y : ℕ) → x ≤ y → is_past last x ≡ true → is_past last y ≡ true
-up None64 x y l e = refl
-up (Some64 z) x y l e = let h : z < x = ltb-true z x e in lt-ltb z y (omega arith)
+up : (last : Option ℕ) (x y : ℕ) → x ≤ y → is_past last x ≡ true → is_past last y ≡ true
+up None x y l e = refl
+up (Some z) x y l e = let h : z < x = ltb-true z x e in lt-ltb z y (omega arith)
 
 -- and what is not is below all that is
-below : (last : Opt64) (x y : ℕ) → is_past last y ≡ false → is_past last x ≡ true → y ≤ x
-below None64 x y e f = never (sym e)
-below (Some64 z) x y e f = let h : z < x = ltb-true z x f in let k : y ≤ z = ltb-false z y e in omega arith
+below : (last : Option ℕ) (x y : ℕ) → is_past last y ≡ false → is_past last x ≡ true → y ≤ x
+below None x y e f = never (sym e)
+below (Some z) x y e f = let h : z < x = ltb-true z x f in let k : y ≤ z = ltb-false z y e in omega arith
 
 -- one more member
-abbrev With : Opt64 → ℕ → List ℕ → List ℕ → Type 0
-With last x xs ys = least_with last (Some64 x) (head_of xs) ≡ head_of ys
+abbrev With : Option ℕ → ℕ → List ℕ → List ℕ → Type 0
+With last x xs ys = least_with last (Some x) (head_of xs) ≡ head_of ys
 
-more : (last : Opt64) (x : ℕ) (xs : List ℕ) → With last x (after last xs) (after last (insert_by itself x xs))
+more : (last : Option ℕ) (x : ℕ) (xs : List ℕ) → With last x (after last xs) (after last (insert_by itself x xs))
 more last x [] = go (is_past last x)
   where
-    go : (b : Bool) → pick b (Some64 x) None64 ≡ head_of (pick b (x ∷ []) [])
+    go : (b : Bool) → pick b (Some x) None ≡ head_of (pick b (x ∷ []) [])
     go true = refl
     go false = refl
 more last x (y ∷ ys) =
@@ -169,39 +168,39 @@ more last x (y ∷ ys) =
 
 module _ (book : Book) (es ns : List ℕ) where
   -- the next member is the first of those past the last one
-  next-head : (last : Opt64) (us : List Unicast) → next_member book es ns last us ≡ head_of (after last (members_of book es ns us))
+  next-head : (last : Option ℕ) (us : List Unicast) → next_member book es ns last us ≡ head_of (after last (members_of book es ns us))
   next-head last [] = refl
   next-head last (u ∷ us) = ap (least_with last (member_of book es ns u)) (next-head last us) ∙ go (member_of book es ns u)
     where
-      go : (o : Opt64) → least_with last o (head_of (after last (members_of book es ns us))) ≡ head_of (after last (adding o (members_of book es ns us)))
-      go None64 = refl
-      go (Some64 x) = more last x (members_of book es ns us)
+      go : (o : Option ℕ) → least_with last o (head_of (after last (members_of book es ns us))) ≡ head_of (after last (adding o (members_of book es ns us)))
+      go None = refl
+      go (Some x) = more last x (members_of book es ns us)
 
   members-rising : (us : List Unicast) → Rising itself 0 (members_of book es ns us)
   members-rising [] = tt
   members-rising (u ∷ us) = go (member_of book es ns u) (members-rising us)
     where
-      go : (o : Opt64) → Rising itself 0 (members_of book es ns us) → Rising itself 0 (adding o (members_of book es ns us))
-      go None64 r = r
-      go (Some64 x) r = rising-insert itself 0 x (members_of book es ns us) (omega arith) r
+      go : (o : Option ℕ) → Rising itself 0 (members_of book es ns us) → Rising itself 0 (adding o (members_of book es ns us))
+      go None r = r
+      go (Some x) r = rising-insert itself 0 x (members_of book es ns us) (omega arith) r
 
   pub members-few : (us : List Unicast) → length (members_of book es ns us) ≤ length us
   members-few [] = omega arith
   members-few (u ∷ us) = go (member_of book es ns u) (members-few us)
     where
-      go : (o : Opt64) → length (members_of book es ns us) ≤ length us → length (adding o (members_of book es ns us)) ≤ suc (length us)
-      go None64 h = omega arith
-      go (Some64 x) h = omega (arith, insert-length itself x (members_of book es ns us))
+      go : (o : Option ℕ) → length (members_of book es ns us) ≤ length us → length (adding o (members_of book es ns us)) ≤ suc (length us)
+      go None h = omega arith
+      go (Some x) h = omega (arith, insert-length itself x (members_of book es ns us))
 
 -- ---- after one more is given out
 
-all_past : (last : Opt64) (lo : ℕ) (xs : List ℕ) → Rising itself lo xs → is_past last lo ≡ true → after last xs ≡ xs
+all_past : (last : Option ℕ) (lo : ℕ) (xs : List ℕ) → Rising itself lo xs → is_past last lo ≡ true → after last xs ≡ xs
 all_past last lo [] r e = refl
 all_past last lo (x ∷ xs) r e =
     let p : is_past last x ≡ true = up last lo x r.0 e in
     rw p (ap (λ (l : List ℕ). x ∷ l) (all_past last (suc x) xs r.1 (up last x (suc x) (omega arith) p)))
 
-head-past : (last : Opt64) (x : ℕ) (xs rest : List ℕ) → after last xs ≡ x ∷ rest → is_past last x ≡ true
+head-past : (last : Option ℕ) (x : ℕ) (xs rest : List ℕ) → after last xs ≡ x ∷ rest → is_past last x ≡ true
 head-past last x [] rest e = let z : ◌≡◌ {A = ℕ} 0 1 = cc in absurd (omega arith)
 head-past last x (y ∷ ys) rest e = go (is_past last y) refl e (head-past last x ys rest)
   where
@@ -210,38 +209,38 @@ head-past last x (y ∷ ys) rest e = go (is_past last y) refl e (head-past last 
     go true p e ih = let q : y ≡ x = cc in ap (is_past last) (sym q) ∙ p
     go false p e ih = ih e
 
-after_next : (last : Opt64) (lo x : ℕ) (xs rest : List ℕ) → Rising itself lo xs → after last xs ≡ x ∷ rest → after (Some64 x) xs ≡ rest
+after_next : (last : Option ℕ) (lo x : ℕ) (xs rest : List ℕ) → Rising itself lo xs → after last xs ≡ x ∷ rest → after (Some x) xs ≡ rest
 after_next last lo x [] rest r e = let z : ◌≡◌ {A = ℕ} 0 1 = cc in absurd (omega arith)
 after_next last lo x (y ∷ ys) rest r e = go (is_past last y) refl e (after_next last (suc y) x ys rest r.1)
   where
-    go : (b : Bool) → is_past last y ≡ b → pick b (y ∷ after last ys) (after last ys) ≡ x ∷ rest → (after last ys ≡ x ∷ rest → after (Some64 x) ys ≡ rest)
-        → after (Some64 x) (y ∷ ys) ≡ rest
+    go : (b : Bool) → is_past last y ≡ b → pick b (y ∷ after last ys) (after last ys) ≡ x ∷ rest → (after last ys ≡ x ∷ rest → after (Some x) ys ≡ rest)
+        → after (Some x) (y ∷ ys) ≡ rest
     go true p e ih =
         let q : y ≡ x = cc in
         let t : after last ys ≡ rest = cc in
         rw (le-ltb x y (omega arith))
-        (all_past (Some64 x) (suc y) ys r.1 (lt-ltb x (suc y) (omega arith)) ∙ sym (all_past last (suc y) ys r.1 (up last y (suc y) (omega arith) p)) ∙ t)
+        (all_past (Some x) (suc y) ys r.1 (lt-ltb x (suc y) (omega arith)) ∙ sym (all_past last (suc y) ys r.1 (up last y (suc y) (omega arith) p)) ∙ t)
     go false p e ih =
         let l : y ≤ x = below last x y p (head-past last x ys rest e) in
         rw (le-ltb x y l) (ih e)
 
-head-none : (xs : List ℕ) → None64 ≡ head_of xs → length xs ≡ 0
+head-none : (xs : List ℕ) → None ≡ head_of xs → length xs ≡ 0
 head-none [] e = refl
 head-none (x ∷ xs) e = let z : ◌≡◌ {A = ℕ} 0 1 = cc in absurd (omega arith)
 
-head-some : (xs : List ℕ) (x : ℕ) → Some64 x ≡ head_of xs → xs ≡ x ∷ tail_of xs
+head-some : (xs : List ℕ) (x : ℕ) → Some x ≡ head_of xs → xs ≡ x ∷ tail_of xs
 head-some [] x e = let z : ◌≡◌ {A = ℕ} 0 1 = cc in absurd (omega arith)
 head-some (y ∷ ys) x e = let q : y ≡ x = cc in ap (λ (z : ℕ). z ∷ ys) q
 
-module _ (book : Book) (es ns : List ℕ) (us : List Unicast) (last : Opt64) where
+module _ (book : Book) (es ns : List ℕ) (us : List Unicast) (last : Option ℕ) where
   -- the next member comes first of those that are left
-  pub next-left : (x : ℕ) → Some64 x ≡ next_member book es ns last us → after last (members_of book es ns us) ≡ x ∷ after (Some64 x) (members_of book es ns us)
+  pub next-left : (x : ℕ) → Some x ≡ next_member book es ns last us → after last (members_of book es ns us) ≡ x ∷ after (Some x) (members_of book es ns us)
   next-left x e =
       let all : List ℕ = members_of book es ns us in
       let h = head-some (after last all) x (e ∙ next-head book es ns last us) in
       h ∙ ap (λ (l : List ℕ). x ∷ l) (sym (after_next last 0 x all (tail_of (after last all)) (members-rising book es ns us) h))
 
-  pub next-none : None64 ≡ next_member book es ns last us → length (after last (members_of book es ns us)) ≡ 0
+  pub next-none : None ≡ next_member book es ns last us → length (after last (members_of book es ns us)) ≡ 0
   next-none e = head-none (after last (members_of book es ns us)) (e ∙ next-head book es ns last us)
 
 module _ {book : Book} {es ns : List ℕ} {us : List Unicast} {out : List ℕ} where

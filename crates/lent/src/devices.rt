@@ -3,7 +3,7 @@ ghost use Rattle.model.specs.Model.{lent_model, SoundTables, Does};
 ghost use Rattle.model.specs.Calls.{poll_of, ack_of, drop_of, delivered_of};
 
 use model::{Answer, Counts, Did};
-use records::{AckKey, Opt16, Opt64, QuorumKey, Refusal};
+use records::{AckKey, QuorumKey, Refusal};
 
 // A device polls, under either address: its oldest frame is queued. Answers whether there was one.
 pub fn poll(
@@ -13,8 +13,8 @@ pub fn poll(
     d: &mut [u64; 32],
     b: &mut [u64; 112],
     told: &mut [u64; 560],
-    eui: Opt64,
-    nwk: Opt16,
+    eui: Option<u64>,
+    nwk: Option<u16>,
     clock: u64,
 ) -> Did
     requires { SoundTables c w.old v.old d.old b.old }
@@ -56,7 +56,7 @@ pub fn drop_indirect_unicasts(
     d: &mut [u64; 32],
     b: &mut [u64; 112],
     told: &mut [u64; 560],
-    eui: Opt64,
+    eui: Option<u64>,
     nwk: u16,
 ) -> Did
     requires { SoundTables c w.old v.old d.old b.old }

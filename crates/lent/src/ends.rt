@@ -5,8 +5,7 @@ ghost use Rattle.model.specs.Calls.{soonest, wake_of, cancel_of, cancel_unrouted
 ghost use Rattle.doing.specs.Parts.{cancel_in, cancel_cast, AbandonedAll};
 
 use model::{Abandoned, Answer, Counts, Did};
-use records::{Opt64, Refusal};
-use rows::Place;
+use records::Refusal;
 use unicasts::Outcome;
 use unrouted::Which;
 
@@ -75,8 +74,8 @@ fn cancel_broadcast(
 {
     if scanning::asks::copy_in_radio(w, c.unicasts, id) {
         return match tables::broadcast_rows::find(b, c.broadcasts, id) {
-            Place::Nowhere => doing::denied(c, Refusal::NoSuchSend),
-            Place::Here(_) => doing::denied(c, Refusal::InTheRadio),
+            None => doing::denied(c, Refusal::NoSuchSend),
+            Some(_) => doing::denied(c, Refusal::InTheRadio),
         };
     }
     match broadcasts::moves::cancel(b, c.broadcasts, told, 0, id) {
@@ -112,10 +111,10 @@ pub fn cancel(
     ensures { Does (cancel_of (lent_model c w.old v.old d.old b.old) id) told.old w.new v.new d.new b.new told.new result }
 {
     match tables::unicast_rows::find(w, c.unicasts, id) {
-        Place::Here(_) => cancel_unicast(c, w, v, d, b, told, id),
-        Place::Nowhere => match tables::unrouted_rows::find(v, c.unrouted, id) {
-            Place::Here(_) => cancel_unrouted(c, w, v, d, b, told, id),
-            Place::Nowhere => cancel_broadcast(c, w, v, d, b, told, id),
+        Some(_) => cancel_unicast(c, w, v, d, b, told, id),
+        None => match tables::unrouted_rows::find(v, c.unrouted, id) {
+            Some(_) => cancel_unrouted(c, w, v, d, b, told, id),
+            None => cancel_broadcast(c, w, v, d, b, told, id),
         },
     }
 }
@@ -152,17 +151,17 @@ pub fn tick(
     }
 }
 
-fn soonest_of(a: Opt64, o: Opt64) -> Opt64
+fn soonest_of(a: Option<u64>, o: Option<u64>) -> Option<u64>
     ensures { result ≡ soonest a o }
 {
     match a {
-        Opt64::None64 => o,
-        Opt64::Some64(t) => records::times::sooner_of(t, o),
+        None => o,
+        Some(t) => records::times::sooner_of(t, o),
     }
 }
 
 // When a tick next has something to do.
-pub fn next_wake(c: Counts, w: &[u64; 320], v: &[u64; 112], d: &[u64; 32], b: &[u64; 112]) -> Opt64
+pub fn next_wake(c: Counts, w: &[u64; 320], v: &[u64; 112], d: &[u64; 32], b: &[u64; 112]) -> Option<u64>
     requires { SoundTables c w.now v.now d.now b.now }
     ensures { result ≡ wake_of (lent_model c w.now v.now d.now b.now) }
 {

@@ -10,8 +10,7 @@ ghost use Rattle.model.specs.Steps.{members_of};
 ghost use Rattle.doing.specs.Parts.{Listed};
 ghost use Rattle.lent.specs.Fills.{Filled, Matching};
 
-use casting::Awaited;
-use records::{Entry, Opt64};
+use records::Entry;
 use sending::Book;
 
 // The slices are no address map, or how many members the set has.
@@ -96,13 +95,13 @@ pub fn destinations(d: &[u64; 32], k: usize, out: &mut [u16; 16]) -> usize
 }
 
 // The key, if there is one, is put at the next place.
-fn put_awaited(out: &mut [u64; 16], m: usize, x: Awaited) -> usize
+fn put_awaited(out: &mut [u64; 16], m: usize, x: Option<QuorumKey>) -> usize
     requires { m < 16 }
     ensures { Filled m (map quorum_word (listed x [])) out.old out.new result }
 {
     match x {
-        Awaited::NotAwaited => m,
-        Awaited::Awaits(k) => {
+        None => m,
+        Some(k) => {
             out[m] = codes::quorum_word(k);
             m + 1
         }
@@ -136,16 +135,16 @@ fn members(
     requires { Held unicast_table w.now n }
     ensures { Filled 0 (members_of book eui.now nwk.now (live unicast_table w.now n)) out.old out.new result }
 {
-    let mut last = Opt64::None64;
+    let mut last = None;
     let mut m: usize = 0;
     while m < 32 {
         match scanning::sets::next_member(w, n, book, eui, nwk, last) {
-            Opt64::None64 => {
+            None => {
                 return m;
             }
-            Opt64::Some64(x) => {
+            Some(x) => {
                 out[m] = x;
-                last = Opt64::Some64(x);
+                last = Some(x);
                 m = m + 1;
             }
         }

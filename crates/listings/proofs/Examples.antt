@@ -1,8 +1,8 @@
 -- Listings and maps in full, as numbers. Assumes nothing.
+use Rattle.std.specs.Prelude.{None, Some}
 use mathlib.Core.Path.{◌≡◌, refl}
 use mathlib.Core.List.{[], ◌∷◌}
 use Rattle.answers.specs.Items.{items_bytes}
-use Rattle.listings.specs.Types.{None64, Some64}
 use Rattle.listings.specs.Listings.{short_items, key_items, abandoned_items, wake_items}
 use Rattle.listings.specs.Maps.{keys_with, shorts_with}
 
@@ -17,10 +17,10 @@ key = refl
 pub abandoned : items_bytes (abandoned_items (1 ∷ 65 ∷ 2 ∷ 66 ∷ []) 1) ≡ 139 ∷ 1 ∷ 0 ∷ 0 ∷ 0 ∷ 65 ∷ 0 ∷ 0 ∷ 0 ∷ []
 abandoned = refl
 
-pub wakes : items_bytes (wake_items (Some64 257)) ≡ 135 ∷ 1 ∷ 1 ∷ 0 ∷ 0 ∷ 0 ∷ 0 ∷ 0 ∷ 0 ∷ []
+pub wakes : items_bytes (wake_items (Some 257)) ≡ 135 ∷ 1 ∷ 1 ∷ 0 ∷ 0 ∷ 0 ∷ 0 ∷ 0 ∷ 0 ∷ []
 wakes = refl
 
-pub sleeps : items_bytes (wake_items None64) ≡ []
+pub sleeps : items_bytes (wake_items None) ≡ []
 sleeps = refl
 
 -- a new address in its place, and one that is there

@@ -1,4 +1,5 @@
 -- The map with one more pair: its place, its order, and what each address is mapped to then. Assumes nothing.
+use Rattle.std.specs.Prelude.{Option, None, Some}
 use Prim.Native.Nat.{ℕ, suc, ◌+◌, ◌≤◌, ◌<◌}
 use native.Mathlib.Omega.{arith}
 use mathlib.Core.Path.{◌≡◌, refl, sym, ap, ap₂, ◌∙◌}
@@ -11,7 +12,6 @@ use borrow.Author.Tests.{ltb-true, ltb-false, eqb-true, eqb-false, lt-ltb, le-lt
 use Rattle.records.specs.Pick.{pick}
 use Rattle.records.proofs.Cases.{never}
 use Rattle.sending.specs.Members.{rises_after, rises_all, map_fits, mapped_in}
-use Rattle.listings.specs.Types.{Opt64, None64, Some64, Paired, NoPlaceLeft, Pairs}
 use Rattle.listings.specs.Maps.{place_in, is_there, keys_with, shorts_with, MapSound, map_full, pairs_after, PairPut, Remapped}
 use Rattle.listings.proofs.Inserts.{front_same, front-on, front-set}
 
@@ -221,13 +221,13 @@ pairs-long x y (k ∷ ks) (m ∷ ms) l = by_tests (ltb k x) refl (eqb k x) refl 
 
 -- ---- what each address is mapped to
 
-pub mapped-new : (x y : ℕ) (ks ms : List ℕ) → length ks ≡ length ms → mapped_in x (keys_with x ks) (shorts_with x y ks ms) ≡ Some64 y
+pub mapped-new : (x y : ℕ) (ks ms : List ℕ) → length ks ≡ length ms → mapped_in x (keys_with x ks) (shorts_with x y ks ms) ≡ Some y
 mapped-new x y [] ms l = rw (eq-eqb x x refl) refl
 mapped-new x y (k ∷ ks) [] l = absurd (omega arith)
 mapped-new x y (k ∷ ks) (m ∷ ms) l = by_tests (ltb k x) refl (eqb k x) refl (mapped-new x y ks ms (omega arith))
   where
-    by_tests : (b : Bool) → ltb k x ≡ b → (d : Bool) → eqb k x ≡ d → mapped_in x (keys_with x ks) (shorts_with x y ks ms) ≡ Some64 y
-        → mapped_in x (keys_with x (k ∷ ks)) (shorts_with x y (k ∷ ks) (m ∷ ms)) ≡ Some64 y
+    by_tests : (b : Bool) → ltb k x ≡ b → (d : Bool) → eqb k x ≡ d → mapped_in x (keys_with x ks) (shorts_with x y ks ms) ≡ Some y
+        → mapped_in x (keys_with x (k ∷ ks)) (shorts_with x y (k ∷ ks) (m ∷ ms)) ≡ Some y
     by_tests true e d f ih =
         let a = ltb-true k x e in
         let g : eqb k x ≡ false = ne_eqb k x (λ q. absurd (omega arith)) in
@@ -243,7 +243,7 @@ mapped-other x y z (k ∷ ks) (m ∷ ms) l n = by_tests (ltb k x) refl (eqb k x)
   where
     by_tests : (b : Bool) → ltb k x ≡ b → (d : Bool) → eqb k x ≡ d → mapped_in z (keys_with x ks) (shorts_with x y ks ms) ≡ mapped_in z ks ms
         → mapped_in z (keys_with x (k ∷ ks)) (shorts_with x y (k ∷ ks) (m ∷ ms)) ≡ mapped_in z (k ∷ ks) (m ∷ ms)
-    by_tests true e d f ih = rw e (ap (λ (o : Opt64). pick (eqb k z) (Some64 m) o) ih)
+    by_tests true e d f ih = rw e (ap (λ (o : Option ℕ). pick (eqb k z) (Some m) o) ih)
     by_tests false e true f ih =
         let a : k ≡ x = eqb-true k x f in
         let g : eqb k z ≡ false = ne_eqb k z (λ q. n (sym q ∙ a)) in
@@ -289,7 +289,7 @@ module _ {n : ℕ} {es ns : List ℕ} (s : MapSound es ns n) where
 
 module _ (x y : ℕ) {n : ℕ} {es ns : List ℕ} (s : MapSound es ns n) where
   -- an address that is there
-  pub pair-there : (p : ℕ) → p ≡ place_in x (take n es) → is_there x (take n es) ≡ true → PairPut x y n es ns es (set ns p y) (Pairs n)
+  pub pair-there : (p : ℕ) → p ≡ place_in x (take n es) → is_there x (take n es) ≡ true → PairPut x y n es ns es (set ns p y) (Some n)
   pair-there p e t =
       let a = s.key_room in
       let b = s.short_room in
@@ -303,7 +303,7 @@ module _ (x y : ℕ) {n : ℕ} {es ns : List ℕ} (s : MapSound es ns n) where
       shorts-there x y (take n es) (take n ns) t (both_long s)
       ∙ ap (λ (i : ℕ). take i (take n ns) ++ (y ∷ drop (suc i) (take n ns))) (sym e) in
       record {
-        answer = ap Pairs (sym m) ∙ ap (λ (b : Bool). pick b NoPlaceLeft (Pairs (length (keys_with x (take n es))))) (sym g);
+        answer = ap Some (sym m) ∙ ap (λ (b : Bool). pick b None (Some (length (keys_with x (take n es))))) (sym g);
         keys = sym (front_same es n (omega arith)) ∙ ap (sets es 0) (sym k) ∙ ap (λ (b : Bool). pick b es (sets es 0 (keys_with x (take n es)))) (sym g);
         shorts = sym (front-set ns n p y (omega arith) (omega arith)) ∙ ap (sets ns 0) (sym q)
             ∙ ap (λ (b : Bool). pick b ns (sets ns 0 (shorts_with x y (take n es) (take n ns)))) (sym g);
@@ -311,13 +311,13 @@ module _ (x y : ℕ) {n : ℕ} {es ns : List ℕ} (s : MapSound es ns n) where
       }
 
   -- a new one, and no place
-  pub pair-full : is_there x (take n es) ≡ false → n ≡ 32 → PairPut x y n es ns es ns NoPlaceLeft
+  pub pair-full : is_there x (take n es) ≡ false → n ≡ 32 → PairPut x y n es ns es ns None
   pair-full t e =
       let c = keys-count s in
       let m : length (keys_with x (take n es)) ≡ suc (length (take n es)) = keys-longer x (take n es) t in
       let g : map_full x es n ≡ true = lt-ltb 32 (length (keys_with x (take n es))) (omega arith) in
       record {
-        answer = ap (λ (b : Bool). pick b NoPlaceLeft (Pairs (length (keys_with x (take n es))))) (sym g);
+        answer = ap (λ (b : Bool). pick b None (Some (length (keys_with x (take n es))))) (sym g);
         keys = ap (λ (b : Bool). pick b es (sets es 0 (keys_with x (take n es)))) (sym g);
         shorts = ap (λ (b : Bool). pick b ns (sets ns 0 (shorts_with x y (take n es) (take n ns)))) (sym g);
         sound = s;
@@ -325,7 +325,7 @@ module _ (x y : ℕ) {n : ℕ} {es ns : List ℕ} (s : MapSound es ns n) where
 
   -- a new one at its place
   pub pair-new : (p : ℕ) {es' ns' : List ℕ} → p ≡ place_in x (take n es) → is_there x (take n es) ≡ false → n < 32
-      → es' ≡ sets es p (x ∷ slice p n es) → ns' ≡ sets ns p (y ∷ slice p n ns) → PairPut x y n es ns es' ns' (Pairs (n + 1))
+      → es' ≡ sets es p (x ∷ slice p n es) → ns' ≡ sets ns p (y ∷ slice p n ns) → PairPut x y n es ns es' ns' (Some (n + 1))
   pair-new p {es'} {ns'} e t h u v =
       let a = s.key_room in
       let b = s.short_room in
@@ -342,7 +342,7 @@ module _ (x y : ℕ) {n : ℕ} {es ns : List ℕ} (s : MapSound es ns n) where
       let z : es' ≡ sets es 0 ks = u ∙ sym (front-on es n p (x ∷ slice p n es) w (omega arith)) ∙ ap (sets es 0) (sym k) in
       let r : take (n + 1) es' ≡ ks = ap₂ (λ (i : ℕ) (l : List ℕ). take i l) (sym m) z ∙ take-front es ks (omega arith) in
       record {
-        answer = ap Pairs (sym m) ∙ ap (λ (b : Bool). pick b NoPlaceLeft (Pairs (length ks))) (sym g);
+        answer = ap Some (sym m) ∙ ap (λ (b : Bool). pick b None (Some (length ks))) (sym g);
         keys = z ∙ ap (λ (b : Bool). pick b es (sets es 0 ks)) (sym g);
         shorts = v ∙ sym (front-on ns n p (y ∷ slice p n ns) w (omega arith)) ∙ ap (sets ns 0) (sym q)
             ∙ ap (λ (b : Bool). pick b ns (sets ns 0 (shorts_with x y (take n es) (take n ns)))) (sym g);
@@ -360,16 +360,16 @@ module _ (x y : ℕ) {n : ℕ} {es ns : List ℕ} (s : MapSound es ns n) where
 pub sound-fits : {n : ℕ} {es ns : List ℕ} → MapSound es ns n → map_fits (take n es) (take n ns) ≡ true
 sound-fits {n} {es} {ns} s = rw (eq-eqb (length (take n es)) (length (take n ns)) (both_long s)) s.rises
 
-abbrev is_pairs : Paired → Bool
-is_pairs NoPlaceLeft = false
-is_pairs (Pairs m) = true
+abbrev is_pairs : Option ℕ → Bool
+is_pairs None = false
+is_pairs (Some m) = true
 
-pub pair-maps : {x y n m : ℕ} {es ns es' ns' : List ℕ} {r : Paired} → MapSound es ns n → PairPut x y n es ns es' ns' r → r ≡ Pairs m
+pub pair-maps : {x y n m : ℕ} {es ns es' ns' : List ℕ} {r : Option ℕ} → MapSound es ns n → PairPut x y n es ns es' ns' r → r ≡ Some m
     → Remapped x y n m es ns es' ns'
 pair-maps {x} {y} {n} {m} {es} {ns} {es'} {ns'} {r} s p e = by-test (map_full x es n) refl
   where
     by-test : (b : Bool) → map_full x es n ≡ b → Remapped x y n m es ns es' ns'
-    by-test true f = never (sym (ap is_pairs (p.answer ∙ ap (λ (b : Bool). pick b NoPlaceLeft (Pairs (length (keys_with x (take n es))))) f)) ∙ ap is_pairs e)
+    by-test true f = never (sym (ap is_pairs (p.answer ∙ ap (λ (b : Bool). pick b None (Some (length (keys_with x (take n es))))) f)) ∙ ap is_pairs e)
     by-test false f =
         let ks : List ℕ = keys_with x (take n es) in
         let ss : List ℕ = shorts_with x y (take n es) (take n ns) in
@@ -378,7 +378,7 @@ pair-maps {x} {y} {n} {m} {es} {ns} {es'} {ns'} {r} s p e = by-test (map_full x 
         let l = both_long s in
         let h : length ks ≤ 32 = ltb-false 32 (length ks) f in
         let j : length ss ≡ length ks = pairs-long x y (take n es) (take n ns) l in
-        let i : m ≡ length ks = ap (pairs_after 0) (sym e ∙ p.answer ∙ ap (λ (b : Bool). pick b NoPlaceLeft (Pairs (length ks))) f) in
+        let i : m ≡ length ks = ap (pairs_after 0) (sym e ∙ p.answer ∙ ap (λ (b : Bool). pick b None (Some (length ks))) f) in
         let u : take m es' ≡ ks =
         ap₂ (λ (k : ℕ) (v : List ℕ). take k v) i (p.keys ∙ ap (λ (b : Bool). pick b es (sets es 0 ks)) f) ∙ take-front es ks (omega arith) in
         let v : take m ns' ≡ ss =
@@ -392,7 +392,7 @@ pair-maps {x} {y} {n} {m} {es} {ns} {es'} {ns'} {r} s p e = by-test (map_full x 
         }
 
 -- refused: nothing changes, and there are 32
-pub pair-refused : {x y n : ℕ} {es ns es' ns' : List ℕ} {r : Paired} → MapSound es ns n → PairPut x y n es ns es' ns' r → r ≡ NoPlaceLeft
+pub pair-refused : {x y n : ℕ} {es ns es' ns' : List ℕ} {r : Option ℕ} → MapSound es ns n → PairPut x y n es ns es' ns' r → r ≡ None
     → (es' ≡ es) × ((ns' ≡ ns) × ((n ≡ 32) × (is_there x (take n es) ≡ false)))
 pair-refused {x} {y} {n} {es} {ns} {es'} {ns'} {r} s p e = by-test (map_full x es n) refl
   where
@@ -415,10 +415,10 @@ pair-refused {x} {y} {n} {es} {ns} {es'} {ns'} {r} s p e = by-test (map_full x e
       p.keys ∙ ap (λ (b : Bool). pick b es (sets es 0 (keys_with x (take n es)))) f,
       (p.shorts ∙ ap (λ (b : Bool). pick b ns (sets ns 0 (shorts_with x y (take n es) (take n ns)))) f, none f (is_there x (take n es)) refl),
     )
-    by-test false f = never (sym (ap is_pairs e) ∙ ap is_pairs (p.answer ∙ ap (λ (b : Bool). pick b NoPlaceLeft (Pairs (length (keys_with x (take n es))))) f))
+    by-test false f = never (sym (ap is_pairs e) ∙ ap is_pairs (p.answer ∙ ap (λ (b : Bool). pick b None (Some (length (keys_with x (take n es))))) f))
 
 -- where they rise, an address that is not at its place is mapped to nothing
-pub above-none : (x q : ℕ) (ks ms : List ℕ) → x < q → rises_after q ks ≡ true → mapped_in x ks ms ≡ None64
+pub above-none : (x q : ℕ) (ks ms : List ℕ) → x < q → rises_after q ks ≡ true → mapped_in x ks ms ≡ None
 above-none x q [] ms l h = refl
 above-none x q (k ∷ ks) [] l h = refl
 above-none x q (k ∷ ks) (m ∷ ms) l h =
@@ -431,12 +431,12 @@ rises-tail : (k : ℕ) (ks : List ℕ) → rises_after k ks ≡ true → rises_a
 rises-tail k [] h = refl
 rises-tail k (j ∷ ks) h = (pick-both (ltb k j) (rises_after j ks) h).1
 
-pub absent_none : (x : ℕ) (ks ms : List ℕ) → rises_all ks ≡ true → is_there x ks ≡ false → mapped_in x ks ms ≡ None64
+pub absent_none : (x : ℕ) (ks ms : List ℕ) → rises_all ks ≡ true → is_there x ks ≡ false → mapped_in x ks ms ≡ None
 absent_none x [] ms h t = refl
 absent_none x (k ∷ ks) [] h t = refl
 absent_none x (k ∷ ks) (m ∷ ms) h t = by-test (ltb k x) refl (λ u. absent_none x ks ms (rises-tail k ks h) u)
   where
-    by-test : (b : Bool) → ltb k x ≡ b → (is_there x ks ≡ false → mapped_in x ks ms ≡ None64) → mapped_in x (k ∷ ks) (m ∷ ms) ≡ None64
+    by-test : (b : Bool) → ltb k x ≡ b → (is_there x ks ≡ false → mapped_in x ks ms ≡ None) → mapped_in x (k ∷ ks) (m ∷ ms) ≡ None
     by-test true e ih =
         let a = ltb-true k x e in
         let g : eqb k x ≡ false = ne_eqb k x (λ q. absurd (omega arith)) in

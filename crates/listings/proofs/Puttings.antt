@@ -1,4 +1,5 @@
 -- Items of a list written in turn, by what is left of it; and the items of the first n numbers: how many, which, and how long. Assumes nothing.
+use Rattle.std.specs.Prelude.{Option, None, Some}
 use Prim.Native.Nat.{ℕ, zero, suc, ◌+◌, ◌*◌, ◌≤◌, ◌<◌}
 use native.Mathlib.Nat.{add-zero, add_assoc, add_comm, suc-mul}
 use native.Mathlib.Omega.{arith}
@@ -11,7 +12,7 @@ use Rattle.answers.specs.Bytes.{Written}
 use Rattle.answers.specs.Items.{item_bytes, items_bytes}
 use Rattle.answers.proofs.Writings.{written_as, written-nothing}
 use Rattle.answers.proofs.Lists.{items-one}
-use Rattle.listings.specs.Types.{Opt64, None64, Some64, Item, Done, Time}
+use Rattle.listings.specs.Types.{Item, Done, Time}
 use Rattle.listings.specs.Listings.{short_item, long_item, destination_item, key_item, abandoned_item, short_items, long_items, destination_items, key_items, by_two, abandoned_items, wake_items}
 
 -- ---- what is left of a list of items
@@ -144,12 +145,12 @@ abandoned-long (x ∷ y ∷ xs) (suc n) h =
 
 -- ---- the next wake
 
-pub wake-some : {o : Opt64} {t : ℕ} → o ≡ Some64 t → item_bytes (Time t) ≡ items_bytes (wake_items o)
-wake-some {o} {t} e = sym (items-one (Time t)) ∙ ap (λ (p : Opt64). items_bytes (wake_items p)) (sym e)
+pub wake-some : {o : Option ℕ} {t : ℕ} → o ≡ Some t → item_bytes (Time t) ≡ items_bytes (wake_items o)
+wake-some {o} {t} e = sym (items-one (Time t)) ∙ ap (λ (p : Option ℕ). items_bytes (wake_items p)) (sym e)
 
-pub wake-none : {o : Opt64} (at : ℕ) (out : List ℕ) → o ≡ None64 → Written at (items_bytes (wake_items o)) out out at
-wake-none at out e = written_as (ap (λ (p : Opt64). items_bytes (wake_items p)) (sym e)) (written-nothing at out)
+pub wake-none : {o : Option ℕ} (at : ℕ) (out : List ℕ) → o ≡ None → Written at (items_bytes (wake_items o)) out out at
+wake-none at out e = written_as (ap (λ (p : Option ℕ). items_bytes (wake_items p)) (sym e)) (written-nothing at out)
 
 -- nothing, or 9
-pub wake-long : (t : ℕ) → length (items_bytes (wake_items (Some64 t))) ≡ 9
+pub wake-long : (t : ℕ) → length (items_bytes (wake_items (Some t))) ≡ 9
 wake-long t = refl

@@ -1,7 +1,7 @@
 -- The answers of a trace that are a list: an item for each of the first n numbers of a lent array, in their order.
-use Rattle.std.specs.Prelude.{ℕ, ◌*◌, ◌%◌, List, [], ◌∷◌, map, take}
+use Rattle.std.specs.Prelude.{ℕ, ◌*◌, ◌%◌, List, [], ◌∷◌, map, take, Option, None, Some}
 use Rattle.codes.specs.Codes.{quorum_from}
-use Rattle.listings.specs.Types.{Opt64, None64, Some64, Item, Time, ShortAddress, ExtendedAddress, Key, Abandonment, DestinationAddress}
+use Rattle.listings.specs.Types.{Item, Time, ShortAddress, ExtendedAddress, Key, Abandonment, DestinationAddress}
 
 -- ---- one item
 
@@ -47,6 +47,6 @@ abandoned_items xs n = by_two (take (n * 2) xs)
 -- ---- the next wake
 
 -- its time, or nothing
-abbrev pub wake_items : Opt64 → List Item
-wake_items None64 = []
-wake_items (Some64 t) = Time t ∷ []
+abbrev pub wake_items : Option ℕ → List Item
+wake_items None = []
+wake_items (Some t) = Time t ∷ []

@@ -1,9 +1,8 @@
 -- The address map with one more pair: two lists of one length, the extended addresses in rising order and the short address of each.
-use Rattle.std.specs.Prelude.{ℕ, suc, ◌≤◌, ◌≡◌, Bool, true, false, List, [], ◌∷◌, length, take, ltb, eqb}
+use Rattle.std.specs.Prelude.{ℕ, suc, ◌≤◌, ◌≡◌, Bool, true, false, List, [], ◌∷◌, length, take, ltb, eqb, Option, None, Some}
 use Rattle.std.proofs.lemmas.List.Edits.{sets}
 use Rattle.records.specs.Pick.{pick}
 use Rattle.sending.specs.Members.{rises_all, map_fits, mapped_in}
-use Rattle.listings.specs.Types.{Some64, Paired, NoPlaceLeft, Pairs}
 
 -- ---- the place of an address
 
@@ -43,13 +42,13 @@ pub record MapSound (es ns : List ℕ) (n : ℕ) : Type 0 where
 abbrev pub map_full : ℕ → List ℕ → ℕ → Bool
 map_full x es n = ltb 32 (length (keys_with x (take n es)))
 
-abbrev pub pairs_after : ℕ → Paired → ℕ
-pairs_after n NoPlaceLeft = n
-pairs_after n (Pairs m) = m
+abbrev pub pairs_after : ℕ → Option ℕ → ℕ
+pairs_after n None = n
+pairs_after n (Some m) = m
 
 -- the arrays begin with the new map and stay as they were behind it; with more than 32 they stay as they were
-pub record PairPut (x y n : ℕ) (es ns es' ns' : List ℕ) (r : Paired) : Type 0 where
-  pub answer : r ≡ pick (map_full x es n) NoPlaceLeft (Pairs (length (keys_with x (take n es))))
+pub record PairPut (x y n : ℕ) (es ns es' ns' : List ℕ) (r : Option ℕ) : Type 0 where
+  pub answer : r ≡ pick (map_full x es n) None (Some (length (keys_with x (take n es))))
   pub keys : es' ≡ pick (map_full x es n) es (sets es 0 (keys_with x (take n es)))
   pub shorts : ns' ≡ pick (map_full x es n) ns (sets ns 0 (shorts_with x y (take n es) (take n ns)))
   pub sound : MapSound es' ns' (pairs_after n r)
@@ -57,5 +56,5 @@ pub record PairPut (x y n : ℕ) (es ns es' ns' : List ℕ) (r : Paired) : Type 
 -- the m pairs are a map that a call takes, x is mapped to y, and every other address to what it was by the n pairs
 pub record Remapped (x y n m : ℕ) (es ns es' ns' : List ℕ) : Type 0 where
   pub fits : map_fits (take m es') (take m ns') ≡ true
-  pub new : mapped_in x (take m es') (take m ns') ≡ Some64 y
+  pub new : mapped_in x (take m es') (take m ns') ≡ Some y
   pub others : (z : ℕ) → (z ≡ x → ⊥) → mapped_in z (take m es') (take m ns') ≡ mapped_in z (take n es) (take n ns)

@@ -7,7 +7,6 @@ ghost use Rattle.answers.specs.Bytes.{Written};
 ghost use Rattle.answers.specs.Items.{items_bytes};
 ghost use Rattle.listings.specs.Listings.{short_items, long_items, destination_items, key_items, abandoned_items, wake_items};
 
-use records::Opt64;
 
 pub mod maps;
 
@@ -100,12 +99,12 @@ pub fn put_abandoned(out: &mut [u8], at: usize, xs: &[u64; 128], n: usize) -> us
 }
 
 // 135 with the time of the next wake, or nothing.
-pub fn put_wake(out: &mut [u8], at: usize, o: Opt64) -> usize
+pub fn put_wake(out: &mut [u8], at: usize, o: Option<u64>) -> usize
     requires { at + length (items_bytes (wake_items o)) ≤ length out.old }
     ensures { Written at (items_bytes (wake_items o)) out.old out.new result }
 {
     match o {
-        Opt64::None64 => at,
-        Opt64::Some64(t) => answers::put_time(out, at, t),
+        None => at,
+        Some(t) => answers::put_time(out, at, t),
     }
 }

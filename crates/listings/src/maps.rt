@@ -5,13 +5,6 @@ ghost use Rattle.std.proofs.lemmas.List.Edits.{sets};
 ghost use Rattle.std.proofs.Math.Seq.{slice};
 ghost use Rattle.listings.specs.Maps.{place_in, is_there, MapSound, PairPut};
 
-// No place is left, or how many pairs there are then.
-#[derive(Clone, Copy)]
-pub enum Paired {
-    NoPlaceLeft,
-    Pairs(usize),
-}
-
 // The place of x: how many of the addresses before it are below it.
 fn place_of(eui: &[u64; 32], n: usize, x: u64) -> usize
     requires n_bound { n ≤ 32 }
@@ -80,19 +73,19 @@ fn insert_short(nwk: &mut [u16; 32], n: usize, p: usize, y: u16)
 }
 
 // Maps x to y. Numbers past the pairs stay as they came; refused, all do.
-pub fn put_pair(eui: &mut [u64; 32], nwk: &mut [u16; 32], n: usize, x: u64, y: u16) -> Paired
+pub fn put_pair(eui: &mut [u64; 32], nwk: &mut [u16; 32], n: usize, x: u64, y: u16) -> Option<usize>
     requires { MapSound eui.old nwk.old n }
     ensures { PairPut x y n eui.old nwk.old eui.new nwk.new result }
 {
     let p = place_of(eui, n, x);
     if is_there(eui, n, p, x) {
         nwk[p] = y;
-        return Paired::Pairs(n);
+        return Some(n);
     }
     if n == 32 {
-        return Paired::NoPlaceLeft;
+        return None;
     }
     insert_key(eui, n, p, x);
     insert_short(nwk, n, p, y);
-    Paired::Pairs(n + 1)
+    Some(n + 1)
 }

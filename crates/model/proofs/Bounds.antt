@@ -1,11 +1,11 @@
 -- No call makes more than 112 actions, and full tables past their deadlines make that many: specs/Claims. Assumes nothing.
+use Rattle.std.specs.Prelude.{Option, None, Some}
 use Prim.Native.Nat.{ℕ, zero, suc, ◌+◌, ◌-◌, ◌*◌, ◌≤◌, ◌<◌}
 use native.Mathlib.Omega.{arith}
 use mathlib.Core.Path.{◌≡◌, refl, sym}
 use mathlib.Core.Bool.{Bool, true, false, ◌||◌}
 use mathlib.Core.List.{List, [], ◌∷◌, ◌++◌}
 use mathlib.Core.Logic.{◌⊎◌, inl, inr, ⊎_elim}
-use mathlib.Core.Option.{Option, none, some}
 use lib.ListN.{length, take, length-append}
 use lib.Dec.{ltb, eqb}
 use borrow.Author.Tests.{eq-eqb, ne_eqb}
@@ -28,14 +28,14 @@ use Rattle.unrouted.specs.Rules as unr
 use Rattle.casting.specs.Rules as bro
 use Rattle.sending.specs.Lists as unis
 use Rattle.casting.specs.Claims.{Sane}
-use Rattle.casting.specs.declared.Best as cast
-use Rattle.model.specs.Types.{None16, Opt32, None32, Some32, NewUnicast, NewUnrouted, NewBroadcast, Opt64, Settings, Unicast, Unrouted, Broadcast, FixedInterval, Best, NoneReady, Ready, NoBest, BestIs, Lapsed, Bound, Retry, NotHeld, Declined, Granted, Resolved, Reached, Unreached, Lender, FromUnicasts, FromBroadcasts, TxResult, Action, Refusal}
+use Rattle.model.specs.Types.{NewUnicast, NewUnrouted, NewBroadcast, Settings, Unicast, Unrouted, Broadcast, FixedInterval, Lapsed, Bound, Retry, NotHeld, Declined, Granted, Resolved, Reached, Unreached, Lender, FromUnicasts, FromBroadcasts, TxResult, Action, Refusal}
 use Rattle.model.specs.Model.{Model, Effect}
 use Rattle.model.specs.Calls.{late, attempt_late, reached, matched, unless, enqueue_of, enqueue_unrouted_of, enqueue_broadcast_of, admitting, only, failing, lapsed, ticked, lend_best, unicast_first, report_in, fail_of, drop_of, cancel_of, route_of, retry_by, cast_bar, cancel_unrouted, turn_unicast, turn_broadcast}
 use Rattle.model.specs.Steps.Call.{EnqueueUnicast, EnqueueCopy, EnqueueUnrouted, EnqueueBroadcast, Dequeue, Transmitted, Poll, AckReceived, RetryDiscovery, FailUnrouted, RouteUnicasts, Delivered, DropIndirect, Cancel, Tick, Abandon, NextWake, Destinations, AwaitingQuorum, PollAddresses, HasUnrouted, HasAwaiting}
 use Rattle.model.specs.Sound.{SoundModel}
 use Rattle.model.proofs.Fews.{each_two, first_two, sweep-one}
 use Rattle.model.specs.Claims.{unicasts_full, unrouted_full, broadcasts_full, FewActions, Busiest}
+use Rattle.records.specs.declared.Priority.{Priority}
 
 -- ---- how many actions a move tells
 
@@ -64,13 +64,13 @@ quiet p = record { most = rw p (omega arith) }
 
 module _ (m : Model) where
   barred : (o : Option Refusal) (e : Effect) → Few e → Few (unless m o e)
-  barred none e f = f
-  barred (some x) e f = quiet refl
+  barred None e f = f
+  barred (Some x) e f = quiet refl
 
   admits : (late empty full : Bool) (m' : Model) → Few (admitting m late empty full m')
   admits late empty full m' = few late (quiet refl) (few empty (quiet refl) (few (eqb m.next no_id) (quiet refl) (few full (quiet refl) (quiet refl))))
 
-  enqueues : (st : Settings) (u : NewUnicast) (copy : Opt32) (now : ℕ) → Few (enqueue_of m st u copy now)
+  enqueues : (st : Settings) (u : NewUnicast) (copy : Option ℕ) (now : ℕ) → Few (enqueue_of m st u copy now)
   enqueues st u copy now = admits (late now) false (unicasts_full m) _
 
   enqueues-unrouted : (st : Settings) (u : NewUnrouted) (now : ℕ) → Few (enqueue_unrouted_of m st u now)
@@ -79,11 +79,11 @@ module _ (m : Model) where
   enqueues-broadcast : (st : Settings) (b : NewBroadcast) (now : ℕ) → Few (enqueue_broadcast_of m st b now)
   enqueues-broadcast st b now = admits (late now || attempt_late b.schedule) (bro.no_copies b.schedule) (broadcasts_full m) _
 
-  lends : (a : Best) (b : cast.Best) → Few (lend_best m a b)
-  lends NoneReady NoBest = quiet refl
-  lends NoneReady (BestIs j q) = quiet refl
-  lends (Ready i p) NoBest = quiet refl
-  lends (Ready i p) (BestIs j q) = few (unicast_first i (rank_of p) j q) (quiet refl) (quiet refl)
+  lends : (a : Option (ℕ × Priority)) (b : Option (ℕ × ℕ)) → Few (lend_best m a b)
+  lends None None = quiet refl
+  lends None (Some (j, q)) = quiet refl
+  lends (Some (i, p)) None = quiet refl
+  lends (Some (i, p)) (Some (j, q)) = few (unicast_first i (rank_of p) j q) (quiet refl) (quiet refl)
 
   unicast-turn : (q : Unicast → Bool) (f : Unicast → Turn Unicast) → Few (turn_unicast m q f)
   unicast-turn q f = record { most = omega (arith, first_two unicast_entry q f m.unicasts) }
@@ -107,7 +107,7 @@ module _ (m : Model) where
     sweeps : (d : ℕ) → Few (fail_of m d)
     sweeps d = record { most = omega (arith, sweep-one (Bound d) m.unrouted, s.unrouted.within) }
 
-    drops : (eui : Opt64) (nwk : ℕ) → Few (drop_of m eui nwk)
+    drops : (eui : Option ℕ) (nwk : ℕ) → Few (drop_of m eui nwk)
     drops eui nwk = record { most = omega (arith, each_two unicast_entry (uni.drop_turn eui nwk) m.unicasts, s.unicasts.within) }
 
     routes : (st : Settings) (d now n : ℕ) (rs : List Resolved) → Few (route_of m st d now n rs)
@@ -145,8 +145,8 @@ module _ (m : Model) where
         record { most = omega (arith, length-append us (rs ++ bs), length-append rs bs, s.unicasts.within, s.unrouted.within, s.broadcasts.within) }
 
 pub few-actions : FewActions
-few-actions m (EnqueueUnicast st u now) s = (enqueues m st u None32 now).most
-few-actions m (EnqueueCopy st broadcast u now) s = (enqueues m st u (Some32 broadcast) now).most
+few-actions m (EnqueueUnicast st u now) s = (enqueues m st u None now).most
+few-actions m (EnqueueCopy st broadcast u now) s = (enqueues m st u (Some broadcast) now).most
 few-actions m (EnqueueUnrouted st u now) s = (enqueues-unrouted m st u now).most
 few-actions m (EnqueueBroadcast st b now) s = (enqueues-broadcast m st b now).most
 few-actions m (Dequeue now) s = (few (late now) (quiet refl) (lends m (unis.best_of now m.unicasts) (bro.best_of now m.broadcasts))).most
@@ -216,7 +216,7 @@ late_unicast i =
       attempts_remaining = 0;
       stage = AwaitingApsAck;
       deadline = 0;
-      copy_of = None32;
+      copy_of = None;
     }
 
 abbrev late_unrouted : ℕ → Unrouted
@@ -233,7 +233,7 @@ late_broadcast i =
       copy = CopyQueued;
       handed_off = true;
       quorum_heard = false;
-      last_error = None16;
+      last_error = None;
       deadline = 0;
     }
 

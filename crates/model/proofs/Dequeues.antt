@@ -1,11 +1,11 @@
--- A dequeue takes the best of both tables, and nothing exactly when none is there: specs/Claims. Assumes that ids rise.
+-- A dequeue takes the best of both tables, and nothing exactly when None is there: specs/Claims. Assumes that ids rise.
+use Rattle.std.specs.Prelude.{Option, None, Some}
 use Prim.Native.Nat.{ℕ, suc, ◌≤◌, ◌<◌}
 use native.Mathlib.Omega.{arith}
 use mathlib.Core.Path.{◌≡◌, refl, sym, ap, ◌∙◌, subst}
 use mathlib.Core.Bool.{Bool, true, false}
 use mathlib.Core.List.{List, [], ◌∷◌}
 use mathlib.Core.Logic.{◌⊎◌, inl, inr, ⊎_elim}
-use mathlib.Core.Option.{Option, some}
 use lib.Dec.{ltb, eqb}
 use borrow.Author.Tests.{le-ltb, ltb-true, ltb-false, eqb-true, eqb-false, eq-eqb}
 use Rattle.records.specs.Pick.{pick}
@@ -23,8 +23,7 @@ use Rattle.sending.proofs.Claims as unip
 use Rattle.casting.specs.Rules as bro
 use Rattle.casting.specs.Claims as broc
 use Rattle.casting.proofs.Bests as brop
-use Rattle.casting.specs.declared.Best as cast
-use Rattle.model.specs.Types.{Unicast, Broadcast, Best, NoneReady, Ready, NoBest, BestIs, Answer, Transmit, NothingQueued, InFlight}
+use Rattle.model.specs.Types.{Unicast, Broadcast, Answer, Transmit, NothingQueued, InFlight}
 use Rattle.model.specs.Model.{Model, Effect, with_unicasts, with_broadcasts, answers}
 use Rattle.model.specs.Calls.{flight_of, cast_of, lend_unicast, lend_broadcast, unicast_first, lend_best, dequeue_of}
 use Rattle.model.specs.Sound.{SoundModel}
@@ -65,7 +64,7 @@ none-ready ready P xs a = all_map (λ x f e. never (sym f ∙ e)) xs a
 -- the unicast that tops its table is found under its id
 record Found (now : ℕ) (us : List Unicast) (i : ℕ) (p : Priority) : Type 0 where
   the : Unicast
-  there : lookup unicast_id i us ≡ some the
+  there : lookup unicast_id i us ≡ Some the
   queued : uni.ready now the ≡ true
   ranks : the.priority ≡ p
 
@@ -94,7 +93,7 @@ module _ (m : Model) (now : ℕ) (s : SoundModel m) where
       let e : u.id ≡ i = lookup_key unicast_id i m.unicasts f.there in
       record {
         the = u;
-        there = subst (λ (k : ℕ). lookup unicast_id k m.unicasts ≡ some u) (sym e) f.there;
+        there = subst (λ (k : ℕ). lookup unicast_id k m.unicasts ≡ Some u) (sym e) f.there;
         queued = f.queued;
         first = rw (e, f.ranks) a;
         lends = ap (λ (o : Option Unicast). answers (with_unicasts m (at_first (has_id unicast_entry i) uni.lend_turn m.unicasts)) (flight_of i (unis.loan_by i m.unicasts o)))
@@ -107,7 +106,7 @@ module _ (m : Model) (now : ℕ) (s : SoundModel m) where
       let e : t.the.id ≡ j = lookup_key broadcast_id j m.broadcasts t.there in
       record {
         the = t.the;
-        there = subst (λ (k : ℕ). lookup broadcast_id k m.broadcasts ≡ some t.the) (sym e) t.there;
+        there = subst (λ (k : ℕ). lookup broadcast_id k m.broadcasts ≡ Some t.the) (sym e) t.there;
         queued = t.queued;
         first = rw (e, t.ranks) a;
         lends = ap (λ (o : Option Broadcast). answers (with_broadcasts m (at_first (has_id broadcast_entry j) bro.dequeue_turn m.broadcasts)) (cast_of j (bro.lent_of o))) t.there ∙ rw e;
@@ -116,11 +115,11 @@ module _ (m : Model) (now : ℕ) (s : SoundModel m) where
   abbrev Takes : Effect → Type 0
   Takes e = ((e ≡ answers m NothingQueued) × NoneWaits now m) ⊎ (UnicastOut e ⊎ BroadcastOut e)
 
-  takes : (x : Best) (y : cast.Best) → unic.IsBest now m.unicasts x → broc.Says now m.broadcasts y → Takes (lend_best m x y)
-  takes NoneReady NoBest a b = inl (refl, (a, b))
-  takes NoneReady (BestIs j q) a t = inr (inr (broadcast-out j q t (none-ready (uni.ready now) _ m.unicasts a, t.first)))
-  takes (Ready i p) NoBest t b = inr (inl (unicast-out i p t (t.tops, none-ready (bro.ready now) _ m.broadcasts b)))
-  takes (Ready i p) (BestIs j q) t b =
+  takes : (x : Option (ℕ × Priority)) (y : Option (ℕ × ℕ)) → unic.IsBest now m.unicasts x → broc.Says now m.broadcasts y → Takes (lend_best m x y)
+  takes None None a b = inl (refl, (a, b))
+  takes None (Some (j, q)) a t = inr (inr (broadcast-out j q t (none-ready (uni.ready now) _ m.unicasts a, t.first)))
+  takes (Some (i, p)) None t b = inr (inl (unicast-out i p t (t.tops, none-ready (bro.ready now) _ m.broadcasts b)))
+  takes (Some (i, p)) (Some (j, q)) t b =
       either-by Takes (unicast_first i (rank_of p) j q)
       (λ e.
       inr (inl

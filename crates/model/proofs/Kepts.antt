@@ -1,12 +1,12 @@
 -- What turns, entering, taking out and choosing keep of a table: its order, its room, how many records have an id, and what holds of every record.
 -- Over any type of records. Assumes nothing.
+use Rattle.std.specs.Prelude.{Option, None, Some}
 use Prim.Native.Nat.{ℕ, suc, ◌+◌, ◌≤◌, ◌<◌}
 use native.Mathlib.Omega.{arith}
 use mathlib.Core.Path.{◌≡◌, refl, sym, ap, ◌∙◌}
 use mathlib.Core.Bool.{Bool, true, false, not}
 use mathlib.Core.List.{List, [], ◌∷◌, ◌++◌}
 use mathlib.Core.Logic.{⊎_elim}
-use mathlib.Core.Option.{Option, none, some}
 use lib.ListN.{length}
 use lib.Dec.{ltb, eqb}
 use Rattle.records.specs.Pick.{pick, bit}
@@ -93,8 +93,8 @@ only-count p q (x ∷ xs) = go (q x) (only-count p q xs)
 -- ---- whether a key is there
 
 abbrev is_there : {A : Type 0} → Option A → Bool
-is_there none = false
-is_there (some x) = true
+is_there None = false
+is_there (Some x) = true
 
 module _ {A : Type 0} (key : A → ℕ) where
   abbrev pub has : ℕ → List A → Bool
@@ -104,7 +104,7 @@ module _ {A : Type 0} (key : A → ℕ) where
   has-lookup k [] = refl
   has-lookup k (x ∷ xs) = go (eqb (key x) k) (has-lookup k xs)
     where
-      go : (b : Bool) → has k xs ≡ is_there (lookup key k xs) → pick b true (has k xs) ≡ is_there (pick b (some x) (lookup key k xs))
+      go : (b : Bool) → has k xs ≡ is_there (lookup key k xs) → pick b true (has k xs) ≡ is_there (pick b (Some x) (lookup key k xs))
       go true ih = refl
       go false ih = ih
 

@@ -1,11 +1,11 @@
 -- What an accepted route and an accepted cancel do: specs/Claims. Assumes nothing.
+use Rattle.std.specs.Prelude.{Option, None, Some}
 use Prim.Native.Nat.{ℕ, suc, ◌+◌, ◌-◌, ◌≤◌, ◌<◌}
 use native.Mathlib.Omega.{arith}
 use mathlib.Core.Path.{◌≡◌, refl, sym, ap, ap₂, ◌∙◌, subst}
 use mathlib.Core.Bool.{Bool, true, false, not, ◌||◌}
 use mathlib.Core.List.Memᴰ
 use mathlib.Core.List.{List, [], ◌∷◌, ◌++◌, Memᴰ}
-use mathlib.Core.Option.{Option, none, some}
 use lib.ListN.{length, take}
 use lib.Seq.{length-take-le}
 use lib.Dec.{ltb, leb, eqb}
@@ -60,7 +60,7 @@ each2-map f [] ys a = tt
 each2-map f (x ∷ xs) [] a = a
 each2-map f (x ∷ xs) (y ∷ ys) a = (f x y a.0, each2-map f xs ys a.1)
 
--- an id below theirs is none of theirs
+-- an id below theirs is None of theirs
 rising-other : (k lo : ℕ) (ts : List Unrouted) (rs : List Resolved) → k < lo → Rising unrouted_id lo ts → length ts ≤ length rs → Each2 (λ u r. reached r ≡ true → u.id ≡ k → ⊥) ts rs
 rising-other k lo [] rs h r l = tt
 rising-other k lo (u ∷ ts) [] h r l = absurd (omega arith)
@@ -145,19 +145,19 @@ route-meets m s d now n rs k a =
 
 -- a live id is counted
 module _ {A : Type 0} (entry : A → Entry) (k : ℕ) where
-  counts-there : (xs : List A) {x : A} → lookup (id_of entry) k xs ≡ some x → 1 ≤ count (has_id entry k) xs
+  counts-there : (xs : List A) {x : A} → lookup (id_of entry) k xs ≡ Some x → 1 ≤ count (has_id entry k) xs
   counts-there [] e = absurd (none-not e)
   counts-there (y ∷ ys) {x} e = go (has_id entry k y) e (counts-there ys)
     where
-      go : (b : Bool) → pick b (some y) (lookup (id_of entry) k ys) ≡ some x → (lookup (id_of entry) k ys ≡ some x → 1 ≤ count (has_id entry k) ys) → 1 ≤ bit b + count (has_id entry k) ys
+      go : (b : Bool) → pick b (Some y) (lookup (id_of entry) k ys) ≡ Some x → (lookup (id_of entry) k ys ≡ Some x → 1 ≤ count (has_id entry k) ys) → 1 ≤ bit b + count (has_id entry k) ys
       go true e ih = omega arith
       go false e ih = omega (arith, ih e)
 
-  counts-none : (xs : List A) → count (has_id entry k) xs ≡ 0 → lookup (id_of entry) k xs ≡ none
+  counts-none : (xs : List A) → count (has_id entry k) xs ≡ 0 → lookup (id_of entry) k xs ≡ None
   counts-none [] e = refl
   counts-none (y ∷ ys) e = go (has_id entry k y) e (counts-none ys)
     where
-      go : (b : Bool) → bit b + count (has_id entry k) ys ≡ 0 → (count (has_id entry k) ys ≡ 0 → lookup (id_of entry) k ys ≡ none) → pick b (some y) (lookup (id_of entry) k ys) ≡ none
+      go : (b : Bool) → bit b + count (has_id entry k) ys ≡ 0 → (count (has_id entry k) ys ≡ 0 → lookup (id_of entry) k ys ≡ None) → pick b (Some y) (lookup (id_of entry) k ys) ≡ None
       go true e ih = absurd (omega arith)
       go false e ih = ih (omega arith)
 
@@ -201,20 +201,20 @@ module _ (m : Model) (id : ℕ) (s : SoundModel m) where
   finds = rw (first-lookup unicast_id id m.unicasts, any-lookup unicast_id id m.unicasts, any-lookup unrouted_id id m.unrouted)
 
   -- nothing barred an accepted one
-  unless-accepted : (b : Bool) (x : Refusal) (e : Effect) → (unless m (pick b (some x) none) e).answer ≡ Accepted → unless m (pick b (some x) none) e ≡ e
+  unless-accepted : (b : Bool) (x : Refusal) (e : Effect) → (unless m (pick b (Some x) None) e).answer ≡ Accepted → unless m (pick b (Some x) None) e ≡ e
   unless-accepted true x e a = denied-not a
   unless-accepted false x e a = refl
 
   abbrev Gone : Effect → Type 0
   Gone e =
-      (lookup unicast_id id e.model.unicasts ≡ none)
-      × ((lookup unrouted_id id e.model.unrouted ≡ none) × (lookup broadcast_id id e.model.broadcasts ≡ none))
+      (lookup unicast_id id e.model.unicasts ≡ None)
+      × ((lookup unrouted_id id e.model.unrouted ≡ None) × (lookup broadcast_id id e.model.broadcasts ≡ None))
 
   -- an id that is live in one table is in no other
   leaves : (u : Option Unicast) (r : Option Unrouted) (b : Option Broadcast)
       → lookup unicast_id id m.unicasts ≡ u → lookup unrouted_id id m.unrouted ≡ r → lookup broadcast_id id m.broadcasts ≡ b
       → (found u r b).answer ≡ Accepted → Gone (found u r b)
-  leaves (some u) r b eu er eb a =
+  leaves (Some u) r b eu er eb a =
       subst Gone (sym (unless-accepted (uni.is_sending u.stage) InTheRadio ones a)) (
         lookup-first-same unicast_entry id uni.cancel_turn (λ v. tt) 0 m.unicasts s.unicasts.rising ∙ ap (after unicast_entry uni.cancel_turn) eu,
         (
@@ -222,15 +222,15 @@ module _ (m : Model) (id : ℕ) (s : SoundModel m) where
           counts-none broadcast_entry id m.broadcasts (omega (arith, s.once id, counts-there unicast_entry id m.unicasts eu)),
         ),
       )
-  leaves none (some r) b eu er eb a = (
+  leaves None (Some r) b eu er eb a = (
     eu,
     (
       lookup-first-same unrouted_entry id unr.cancel_turn (λ v. tt) 0 m.unrouted s.unrouted.rising ∙ ap (after unrouted_entry unr.cancel_turn) er,
       counts-none broadcast_entry id m.broadcasts (omega (arith, s.once id, counts-there unrouted_entry id m.unrouted er)),
     ),
   )
-  leaves none none none eu er eb a = denied-not a
-  leaves none none (some b) eu er eb a =
+  leaves None None None eu er eb a = denied-not a
+  leaves None None (Some b) eu er eb a =
       subst Gone (sym (unless-accepted (bro.in_radio b.copy || any_of (uni.sent_copy id) m.unicasts) InTheRadio (cancel_broadcast m id) a)) (
         lookup-each unicast_entry (uni.copy_turn id) (copy-same id) 0 id m.unicasts s.unicasts.rising ∙ ap (after unicast_entry (uni.copy_turn id)) eu,
         (
@@ -240,12 +240,12 @@ module _ (m : Model) (id : ℕ) (s : SoundModel m) where
       )
 
   -- where a broadcast has the id, an accepted cancel is the broadcast's
-  is-cast : (b : Broadcast) → lookup broadcast_id id m.broadcasts ≡ some b → (cancel_of m id).answer ≡ Accepted → cancel_of m id ≡ cancel_broadcast m id
+  is-cast : (b : Broadcast) → lookup broadcast_id id m.broadcasts ≡ Some b → (cancel_of m id).answer ≡ Accepted → cancel_of m id ≡ cancel_broadcast m id
   is-cast b eb a =
       let l = counts-there broadcast_entry id m.broadcasts eb in
-      let eu : lookup unicast_id id m.unicasts ≡ none = counts-none unicast_entry id m.unicasts (omega (arith, s.once id, l)) in
-      let er : lookup unrouted_id id m.unrouted ≡ none = counts-none unrouted_entry id m.unrouted (omega (arith, s.once id, l)) in
-      let q : cancel_of m id ≡ found none none (some b) = finds ∙ rw (eu, er, eb) in
+      let eu : lookup unicast_id id m.unicasts ≡ None = counts-none unicast_entry id m.unicasts (omega (arith, s.once id, l)) in
+      let er : lookup unrouted_id id m.unrouted ≡ None = counts-none unrouted_entry id m.unrouted (omega (arith, s.once id, l)) in
+      let q : cancel_of m id ≡ found None None (Some b) = finds ∙ rw (eu, er, eb) in
       q ∙ unless-accepted (bro.in_radio b.copy || any_of (uni.sent_copy id) m.unicasts) InTheRadio (cancel_broadcast m id) (ap (λ (e : Effect). e.answer) (sym q) ∙ a)
 
 pub cancel-leaves-none : CancelLeavesNone

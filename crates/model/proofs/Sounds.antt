@@ -1,11 +1,11 @@
 -- Every call keeps the tables sound, and so every history of calls from fresh tables does. Assumes nothing.
+use Rattle.std.specs.Prelude.{Option, None, Some}
 use Prim.Native.Nat.{ℕ, suc, ◌+◌, ◌-◌, ◌≤◌, ◌<◌}
 use native.Mathlib.Omega.{arith}
 use mathlib.Core.Path.{◌≡◌, refl, ap, ◌∙◌}
 use mathlib.Core.Bool.{Bool, true, false, not, ◌||◌}
 use mathlib.Core.List.{List, [], ◌∷◌}
 use mathlib.Core.Logic.{⊎_elim}
-use mathlib.Core.Option.{Option, none, some}
 use lib.ListN.{length, take}
 use lib.Dec.{ltb, leb, eqb}
 use borrow.Author.Tests.{eqb-false, ltb-false, leb-false, not-true, eq-eqb, ne_eqb}
@@ -18,7 +18,6 @@ use Rattle.rows.specs.Lists.{All, insert_by, remove_by, lookup}
 use Rattle.rows.specs.Moves.{Turn, kept, at_first, first_of, any_of, count, has_id, Same}
 use Rattle.rows.specs.Moves.Turn.{Keeps, HandsOff, Settles}
 use Rattle.casting.specs.Claims.{Sane, Leaves}
-use Rattle.casting.specs.declared.Best as cast
 use Rattle.casting.specs.Rules as bro
 use Rattle.casting.proofs.Entries.{same-dequeue, same-cancel, same-report, same-delivered, same-tick}
 use Rattle.casting.proofs.Sanes.{sane-admitted, sane-dequeue, sane-report, sane-delivered, sane-tick}
@@ -27,7 +26,7 @@ use Rattle.sending.specs.Lists as unis
 use Rattle.sending.proofs.Turns.{lend_same, poll-same, cancel-same, ack-same, report-same, tick-same, drop-same, copy-same}
 use Rattle.unrouted.specs.Rules as unr
 use Rattle.unrouted.proofs.Exact.{sweep-same}
-use Rattle.model.specs.Types.{Opt16, Opt32, None32, Some32, Opt64, AckKey, QuorumKey, Unicast, Unrouted, Destination, Broadcast, Settings, TxResult, Refusal, Best, NoneReady, Ready, NoBest, BestIs, Lapsed, Bound, Retry, NotHeld, Declined, Granted, NewUnicast, NewUnrouted, NewBroadcast, Resolved, Lender, FromUnicasts, FromBroadcasts}
+use Rattle.model.specs.Types.{AckKey, QuorumKey, Unicast, Unrouted, Destination, Broadcast, Settings, TxResult, Refusal, Lapsed, Bound, Retry, NotHeld, Declined, Granted, NewUnicast, NewUnrouted, NewBroadcast, Resolved, Lender, FromUnicasts, FromBroadcasts}
 use Rattle.model.specs.Model.{Model, Effect, fresh_of, with_unicasts, with_unrouted, with_broadcasts}
 use Rattle.model.specs.Calls.{late, unless, only, reached, matched, lapsed, routing, route_of, admitting, drawn, new_unicast, enqueue_of, enqueue_unicast_of, enqueue_copy_of, new_unrouted, enqueue_unrouted_of, attempt_late, new_broadcast, enqueue_broadcast_of, lend_unicast, lend_broadcast, unicast_first, lend_best, dequeue_of, report_in, transmitted_of, poll_of, ack_of, drop_of, delivered_of, retry_by, retry_of, fail_of, cast_bar, cancel_of, tick_of, emptied}
 use Rattle.model.specs.Steps.{Call, step_of, after}
@@ -36,6 +35,7 @@ use Rattle.model.specs.Sound.{Kept, live_with, SoundModel}
 use Rattle.model.proofs.Kepts.{all_map, all-each, all_first, all_insert, kept-insert, kept-remove, kept-only, only-count, all-only, insert-fewer, Shrinks, stays, shrinks-each, shrinks-first}
 use Rattle.model.proofs.Holds.{room-means, held-still, held_new, held_kept, held-without, spent-kept, spent-held}
 use Rattle.model.proofs.Routes.{entering-rising, entering-length, entering-fewer}
+use Rattle.records.specs.declared.Priority.{Priority}
 
 -- ---- ids
 
@@ -148,8 +148,8 @@ module _ {m : Model} (s : SoundModel m) where
 
   -- a refusal changes nothing, so only what happens without one is asked
   unless-sound : (o : Option Refusal) (e : Effect) → Good e → Good (unless m o e)
-  unless-sound none e h = h
-  unless-sound (some x) e h = s
+  unless-sound None e h = h
+  unless-sound (Some x) e h = s
 
   -- ---- enqueues
 
@@ -160,7 +160,7 @@ module _ {m : Model} (s : SoundModel m) where
       (λ e.
       either-by Good (eqb m.next no_id) (λ n. s) (λ n. either-by Good full (λ f. s) (h e (omega (arith, eqb-false m.next no_id n, s.last))))))
 
-  enqueue-sound : (set : Settings) (u : NewUnicast) (copy : Opt32) (now : ℕ) → Good (enqueue_of m set u copy now)
+  enqueue-sound : (set : Settings) (u : NewUnicast) (copy : Option ℕ) (now : ℕ) → Good (enqueue_of m set u copy now)
   enqueue-sound set u copy now =
       let v : Unicast = new_unicast m set u copy now in
       let m' : Model = with_unicasts (drawn m) (insert_by unicast_id v m.unicasts) in
@@ -170,10 +170,10 @@ module _ {m : Model} (s : SoundModel m) where
       (kept-insert unicast_id v (leb-false unicast_room (length m.unicasts) f) s.unicasts) s.unrouted s.held s.broadcasts s.waiting s.sane)
 
   pub enqueue-unicast-sound : (set : Settings) (u : NewUnicast) (now : ℕ) → SoundModel (enqueue_unicast_of m set u now).model
-  enqueue-unicast-sound set u now = enqueue-sound set u None32 now
+  enqueue-unicast-sound set u now = enqueue-sound set u None now
 
   pub enqueue-copy-sound : (set : Settings) (broadcast : ℕ) (u : NewUnicast) (now : ℕ) → SoundModel (enqueue_copy_of m set broadcast u now).model
-  enqueue-copy-sound set broadcast u now = enqueue-sound set u (Some32 broadcast) now
+  enqueue-copy-sound set broadcast u now = enqueue-sound set u (Some broadcast) now
 
   pub enqueue-unrouted-sound : (set : Settings) (u : NewUnrouted) (now : ℕ) → SoundModel (enqueue_unrouted_of m set u now).model
   enqueue-unrouted-sound set u now =
@@ -210,11 +210,11 @@ module _ {m : Model} (s : SoundModel m) where
   pub dequeue-sound : (now : ℕ) → SoundModel (dequeue_of m now).model
   dequeue-sound now = either Good (late now) s (go (unis.best_of now m.unicasts) (bro.best_of now m.broadcasts))
     where
-      go : (a : Best) (b : cast.Best) → Good (lend_best m a b)
-      go NoneReady NoBest = s
-      go NoneReady (BestIs j q) = lend-broadcast j
-      go (Ready i p) NoBest = lend-unicast i
-      go (Ready i p) (BestIs j q) = either Good (unicast_first i (rank_of p) j q) (lend-unicast i) (lend-broadcast j)
+      go : (a : Option (ℕ × Priority)) (b : Option (ℕ × ℕ)) → Good (lend_best m a b)
+      go None None = s
+      go None (Some (j, q)) = lend-broadcast j
+      go (Some (i, p)) None = lend-unicast i
+      go (Some (i, p)) (Some (j, q)) = either Good (unicast_first i (rank_of p) j q) (lend-unicast i) (lend-broadcast j)
 
   pub transmitted-sound : (from : Lender) (id frame : ℕ) (x : TxResult) (now delay : ℕ) → SoundModel (transmitted_of m from id frame x now delay).model
   transmitted-sound from id frame x now delay = either Good (late now) s (go from)
@@ -229,13 +229,13 @@ module _ {m : Model} (s : SoundModel m) where
 
   -- ---- devices
 
-  pub poll-sound : (eui : Opt64) (nwk : Opt16) (now : ℕ) → SoundModel (poll_of m eui nwk now).model
+  pub poll-sound : (eui : Option ℕ) (nwk : Option ℕ) (now : ℕ) → SoundModel (poll_of m eui nwk now).model
   poll-sound eui nwk now = either Good (late now) s (turned-unicast (uni.awaits eui nwk now) uni.poll_turn poll-same)
 
   pub ack-sound : (k : AckKey) → SoundModel (ack_of m k).model
   ack-sound k = turned-unicast (uni.keyed k) uni.ack_turn ack-same
 
-  pub drop-sound : (eui : Opt64) (nwk : ℕ) → SoundModel (drop_of m eui nwk).model
+  pub drop-sound : (eui : Option ℕ) (nwk : ℕ) → SoundModel (drop_of m eui nwk).model
   drop-sound eui nwk = on-unicasts (shrinks-each unicast_entry s.unicasts (uni.drop_turn eui nwk) (drop-same eui nwk))
 
   pub delivered-sound : (k : QuorumKey) → SoundModel (delivered_of m k).model

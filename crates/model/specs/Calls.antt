@@ -1,6 +1,5 @@
 -- 01's calls over the send tables: for each, its refusals in 01's order, then what it makes of the lists, answers and tells.
-use Rattle.std.specs.Prelude.{ℕ, suc, ◌-◌, Bool, true, false, not, ◌&&◌, ◌||◌, List, [], ◌∷◌, ◌++◌, map, length, take, ltb, leb, eqb}
-use Rattle.std.proofs.Math.Option.{Option, none, some}
+use Rattle.std.specs.Prelude.{ℕ, suc, ◌-◌, Bool, true, false, not, ◌&&◌, ◌||◌, List, [], ◌∷◌, ◌++◌, map, length, take, ltb, leb, eqb, Option, None, Some}
 use Rattle.records.specs.Pick.{pick}
 use Rattle.records.specs.Limits.{last_time, no_id, unicast_room, broadcast_room}
 use Rattle.records.specs.Priorities.{rank_of}
@@ -8,13 +7,13 @@ use Rattle.records.specs.Records.{unicast_id, unrouted_id, broadcast_id, destina
 use Rattle.records.specs.Times.{sooner}
 use Rattle.rows.specs.Lists.{insert_by, remove_by, lookup}
 use Rattle.rows.specs.Moves.{Turn, each, at_first, first_of, any_of, count, each_told, at_first_told, has_id}
-use Rattle.model.specs.Types.{Opt16, None16, Opt32, None32, Some32, Opt64, None64, Some64, Address, AckKey, QuorumKey, Schedule, Once, PassiveAck, FixedInterval, Unicast, Unrouted, Broadcast, Settings, TxResult, Entry, Code, Action, Settled, Refusal, TimeTooLate, IdsExhausted, NoCopies, NoPlace, NoSuchSend, InTheRadio, DestinationNotHeld, ResultsMismatch, Best, NoneReady, Ready, Loan, NoLoan, Lent, NoBest, BestIs, Lapsed, Bound, Retry, NotHeld, Declined, Granted, NewUnicast, NewUnrouted, NewBroadcast, Resolved, Reached, Unreached, Lender, FromUnicasts, FromBroadcasts, Unicasting, Broadcasting, Answer, Issued, Replied, NothingQueued, InFlight}
+use Rattle.model.specs.Types.{Address, AckKey, QuorumKey, Schedule, Once, PassiveAck, FixedInterval, Unicast, Unrouted, Broadcast, Settings, TxResult, Entry, Code, Action, Settled, Refusal, TimeTooLate, IdsExhausted, NoCopies, NoPlace, NoSuchSend, InTheRadio, DestinationNotHeld, ResultsMismatch, Lapsed, Bound, Retry, NotHeld, Declined, Granted, NewUnicast, NewUnrouted, NewBroadcast, Resolved, Reached, Unreached, Lender, FromUnicasts, FromBroadcasts, Unicasting, Broadcasting, Answer, Issued, Replied, NothingQueued, InFlight}
 use Rattle.model.specs.Model.{Model, Effect, with_unicasts, with_unrouted, with_broadcasts, denied, done, answers}
-use Rattle.casting.specs.declared.Best as cast
 use Rattle.sending.specs.Rules as uni
 use Rattle.sending.specs.Lists as unis
 use Rattle.unrouted.specs.Rules as unr
 use Rattle.casting.specs.Rules as bro
+use Rattle.records.specs.declared.Priority.{Priority}
 
 -- a time that is handed in is too late
 abbrev pub late : ℕ → Bool
@@ -22,8 +21,8 @@ late now = ltb last_time now
 
 -- the effect, unless something bars it
 abbrev pub unless : Model → Option Refusal → Effect → Effect
-unless m none e = e
-unless m (some x) e = denied m x
+unless m None e = e
+unless m (Some x) e = denied m x
 
 -- ---- enqueues
 
@@ -39,21 +38,21 @@ admitting m late empty full m' =
 abbrev pub drawn : Model → Model
 drawn m = record { next = suc m.next; unicasts = m.unicasts; unrouted = m.unrouted; held = m.held; broadcasts = m.broadcasts }
 
-abbrev pub new_unicast : Model → Settings → NewUnicast → Opt32 → ℕ → Unicast
+abbrev pub new_unicast : Model → Settings → NewUnicast → Option ℕ → ℕ → Unicast
 new_unicast m s u copy now =
-    uni.admitted_of m.next u.frame u.waiter u.priority u.confirm u.next_hop u.poll_address copy s now None64
+    uni.admitted_of m.next u.frame u.waiter u.priority u.confirm u.next_hop u.poll_address copy s now None
 
 -- a unicast, or a broadcast's copy: it names any id
-abbrev pub enqueue_of : Model → Settings → NewUnicast → Opt32 → ℕ → Effect
+abbrev pub enqueue_of : Model → Settings → NewUnicast → Option ℕ → ℕ → Effect
 enqueue_of m s u copy now =
     admitting m (late now) false (leb unicast_room (length m.unicasts))
     (with_unicasts (drawn m) (insert_by unicast_id (new_unicast m s u copy now) m.unicasts))
 
 abbrev pub enqueue_unicast_of : Model → Settings → NewUnicast → ℕ → Effect
-enqueue_unicast_of m s u now = enqueue_of m s u None32 now
+enqueue_unicast_of m s u now = enqueue_of m s u None now
 
 abbrev pub enqueue_copy_of : Model → Settings → ℕ → NewUnicast → ℕ → Effect
-enqueue_copy_of m s broadcast u now = enqueue_of m s u (Some32 broadcast) now
+enqueue_copy_of m s broadcast u now = enqueue_of m s u (Some broadcast) now
 
 abbrev pub new_unrouted : Model → Settings → NewUnrouted → ℕ → Unrouted
 new_unrouted m s u now = unr.admitted_of m.next u.frame u.waiter u.priority u.confirm u.destination now s.handoff_timeout
@@ -89,17 +88,17 @@ turn_broadcast m q f = done (with_broadcasts m (at_first q f m.broadcasts)) (at_
 -- ---- the radio
 
 -- the unicast, or the broadcast, with that id is lent to the radio
-abbrev pub flight_of : ℕ → Loan → Answer
-flight_of i NoLoan = NothingQueued
-flight_of i (Lent frame hop pending) = InFlight i frame (Unicasting hop pending)
+abbrev pub flight_of : ℕ → Option (ℕ × (ℕ × Bool)) → Answer
+flight_of i None = NothingQueued
+flight_of i (Some (frame, (hop, pending))) = InFlight i frame (Unicasting hop pending)
 
 abbrev pub lend_unicast : Model → ℕ → Effect
 lend_unicast m i =
     answers (with_unicasts m (at_first (has_id unicast_entry i) uni.lend_turn m.unicasts)) (flight_of i (unis.loan_of i m.unicasts))
 
-abbrev pub cast_of : ℕ → Opt32 → Answer
-cast_of i None32 = NothingQueued
-cast_of i (Some32 frame) = InFlight i frame Broadcasting
+abbrev pub cast_of : ℕ → Option ℕ → Answer
+cast_of i None = NothingQueued
+cast_of i (Some frame) = InFlight i frame Broadcasting
 
 abbrev pub lend_broadcast : Model → ℕ → Effect
 lend_broadcast m i =
@@ -109,11 +108,11 @@ lend_broadcast m i =
 abbrev pub unicast_first : ℕ → ℕ → ℕ → ℕ → Bool
 unicast_first i p j q = pick (eqb p q) (ltb i j) (ltb q p)
 
-abbrev pub lend_best : Model → Best → cast.Best → Effect
-lend_best m NoneReady NoBest = answers m NothingQueued
-lend_best m NoneReady (BestIs j q) = lend_broadcast m j
-lend_best m (Ready i p) NoBest = lend_unicast m i
-lend_best m (Ready i p) (BestIs j q) = pick (unicast_first i (rank_of p) j q) (lend_unicast m i) (lend_broadcast m j)
+abbrev pub lend_best : Model → Option (ℕ × Priority) → Option (ℕ × ℕ) → Effect
+lend_best m None None = answers m NothingQueued
+lend_best m None (Some (j, q)) = lend_broadcast m j
+lend_best m (Some (i, p)) None = lend_unicast m i
+lend_best m (Some (i, p)) (Some (j, q)) = pick (unicast_first i (rank_of p) j q) (lend_unicast m i) (lend_broadcast m j)
 
 abbrev pub dequeue_of : Model → ℕ → Effect
 dequeue_of m now = pick (late now) (denied m TimeTooLate) (lend_best m (unis.best_of now m.unicasts) (bro.best_of now m.broadcasts))
@@ -130,7 +129,7 @@ transmitted_of m from id frame x now delay = pick (late now) (denied m TimeTooLa
 
 -- ---- devices
 
-abbrev pub poll_of : Model → Opt64 → Opt16 → ℕ → Effect
+abbrev pub poll_of : Model → Option ℕ → Option ℕ → ℕ → Effect
 poll_of m eui nwk now =
     pick (late now) (denied m TimeTooLate)
     (answers (with_unicasts m (at_first (uni.awaits eui nwk now) uni.poll_turn m.unicasts)) (Replied (any_of (uni.awaits eui nwk now) m.unicasts)))
@@ -138,7 +137,7 @@ poll_of m eui nwk now =
 abbrev pub ack_of : Model → AckKey → Effect
 ack_of m k = turn_unicast m (uni.keyed k) uni.ack_turn
 
-abbrev pub drop_of : Model → Opt64 → ℕ → Effect
+abbrev pub drop_of : Model → Option ℕ → ℕ → Effect
 drop_of m eui nwk =
     done (with_unicasts m (each (uni.drop_turn eui nwk) m.unicasts)) (each_told unicast_entry (uni.drop_turn eui nwk) m.unicasts)
 
@@ -173,7 +172,7 @@ reached (Unreached c) = false
 -- a send as it enters the unicasts from a route: under its id, with the deadline that it was admitted with
 abbrev pub routed : Settings → ℕ → Unrouted → ℕ → Address → Unicast
 routed s now u hop a =
-    uni.admitted_of u.id u.frame u.waiter u.priority u.confirm hop a None32 s now (Some64 u.deadline)
+    uni.admitted_of u.id u.frame u.waiter u.priority u.confirm hop a None s now (Some u.deadline)
 
 -- the sends to a destination, in id order, each with its result: a success enters the unicasts, an error settles with its code
 abbrev pub entering : Settings → ℕ → List Unrouted → List Resolved → List Unicast → List Unicast
@@ -186,7 +185,7 @@ abbrev pub failing : List Unrouted → List Resolved → List Action
 failing [] rs = []
 failing (u ∷ ts) [] = []
 failing (u ∷ ts) (Reached hop a ∷ rs) = failing ts rs
-failing (u ∷ ts) (Unreached c ∷ rs) = Settled (unrouted_entry u) (Code c) None16 ∷ failing ts rs
+failing (u ∷ ts) (Unreached c ∷ rs) = Settled (unrouted_entry u) (Code c) None ∷ failing ts rs
 
 -- the unrouted sends after a tick
 abbrev pub lapsed : Model → ℕ → List Unrouted
@@ -226,8 +225,8 @@ cancel_unrouted m id =
 
 -- 5 where no broadcast has the id, 6 where it or a live copy of it is in the radio
 abbrev pub cast_bar : ℕ → List Unicast → Option Broadcast → Option Refusal
-cast_bar id us none = some NoSuchSend
-cast_bar id us (some b) = pick (bro.in_radio b.copy || any_of (uni.sent_copy id) us) (some InTheRadio) none
+cast_bar id us None = Some NoSuchSend
+cast_bar id us (Some b) = pick (bro.in_radio b.copy || any_of (uni.sent_copy id) us) (Some InTheRadio) None
 
 -- a broadcast is settled, and then its copies
 abbrev pub cancel_broadcast : Model → ℕ → Effect
@@ -269,11 +268,11 @@ abbrev pub tick_of : Model → ℕ → Effect
 tick_of m now = pick (late now) (denied m TimeTooLate) (ticked m now)
 
 -- the sooner of two times, either of which may be missing
-abbrev pub soonest : Opt64 → Opt64 → Opt64
-soonest None64 o = o
-soonest (Some64 t) o = sooner t o
+abbrev pub soonest : Option ℕ → Option ℕ → Option ℕ
+soonest None o = o
+soonest (Some t) o = sooner t o
 
-abbrev pub wake_of : Model → Opt64
+abbrev pub wake_of : Model → Option ℕ
 wake_of m = soonest (unis.wake_of m.unicasts) (soonest (unr.wake_of m.unrouted) (bro.wake_of m.broadcasts))
 
 -- ---- abandon: all tables are emptied, and every live send is listed

@@ -1,7 +1,6 @@
 -- What the calls are claimed to mean, in 01's words; proofs/ proves it.
-use Rattle.std.specs.Prelude.{ℕ, ◌-◌, ◌≤◌, ◌<◌, min, ◌≡◌, Bool, true, false, not, ◌&&◌, ◌||◌, ◌⊎◌, ◌↔◌, length, take, ltb, leb, eqb}
+use Rattle.std.specs.Prelude.{ℕ, ◌-◌, ◌≤◌, ◌<◌, min, ◌≡◌, Bool, true, false, not, ◌&&◌, ◌||◌, ◌⊎◌, ◌↔◌, length, take, ltb, leb, eqb, Option, None, Some}
 use mathlib.Core.List.{List, [], ◌∷◌, ◌++◌, Memᴰ}
-use Rattle.std.proofs.Math.Option.{Option, none, some}
 use Rattle.records.specs.Limits.{last_time, no_id, unicast_room, unrouted_room, destination_room, broadcast_room}
 use Rattle.records.specs.Priorities.{rank_of}
 use Rattle.records.specs.Records.{unicast_id, unrouted_id, broadcast_id, unicast_entry, unrouted_entry, broadcast_entry}
@@ -17,7 +16,7 @@ use Rattle.sending.specs.Rules as uni
 use Rattle.sending.specs.Members.{map_fits}
 use Rattle.unrouted.specs.Rules as unr
 use Rattle.casting.specs.Rules as bro
-use Rattle.model.specs.Types.{None16, Opt64, None64, Some64, Schedule, Once, PassiveAck, FixedInterval, Unicast, Unrouted, Broadcast, Settings, Code, Action, Settled, Lapsed, Resolved, Reached, Unreached, Lender, FromUnicasts, FromBroadcasts, Refusal, TimeTooLate, IdsExhausted, NoCopies, NoPlace, NoSuchSend, InTheRadio, DestinationNotHeld, ResultsMismatch, MapMalformed, Denied, Accepted, NothingQueued, InFlight, Unicasting, Broadcasting}
+use Rattle.model.specs.Types.{Schedule, Once, PassiveAck, FixedInterval, Unicast, Unrouted, Broadcast, Settings, Code, Action, Settled, Lapsed, Resolved, Reached, Unreached, Lender, FromUnicasts, FromBroadcasts, Refusal, TimeTooLate, IdsExhausted, NoCopies, NoPlace, NoSuchSend, InTheRadio, DestinationNotHeld, ResultsMismatch, MapMalformed, Denied, Accepted, NothingQueued, InFlight, Unicasting, Broadcasting}
 use Rattle.model.specs.Model.{Model, Effect, with_unicasts, with_broadcasts, answers}
 use Rattle.model.specs.Calls.{late, attempt_late, reached, matched, dequeue_of, only, routed, failing, lapsed, route_of, cancel_of, wake_of}
 use Rattle.model.specs.Sound.{SoundModel}
@@ -29,8 +28,8 @@ use Rattle.model.specs.Steps.Reply.{Says}
 
 -- the send that was looked up is there, and has the test
 abbrev pub that_has : {A : Type 0} → (A → Bool) → Option A → Bool
-that_has q none = false
-that_has q (some x) = q x
+that_has q None = false
+that_has q (Some x) = q x
 
 abbrev pub is_there : {A : Type 0} → Option A → Bool
 is_there o = that_has (λ x. true) o
@@ -119,7 +118,7 @@ bars_of m (PollAddresses es ns) = (not (map_fits es ns), MapMalformed) ∷ []
 bars_of m (HasUnrouted d) = []
 bars_of m (HasAwaiting a) = []
 
--- the number's test holds, and none before it does
+-- the number's test holds, and None before it does
 abbrev pub Bars : List Bar → Refusal → Type 0
 Bars [] x = ⊥
 Bars (b ∷ bs) x = ((b.0 ≡ true) × (b.1 ≡ x)) ⊎ ((b.0 ≡ false) × Bars bs x)
@@ -138,7 +137,7 @@ DeniedAltersNothing = (m : Model) (c : Call) (x : Refusal) → (step_of m c).rep
 abbrev pub FewActions : Type 0
 FewActions = (m : Model) (c : Call) → SoundModel m → length (step_of m c).actions ≤ 112
 
--- and some call makes that many
+-- and Some call makes that many
 pub record Busiest : Type 0 where
   pub model : Model
   pub sound : SoundModel model
@@ -164,7 +163,7 @@ AllBehind now m i p =
 -- a send of a table is unexpired and queued, the others are behind it, and the call lends it
 pub record GoesOut {A : Type 0} (xs : List A) (key rank : A → ℕ) (ready : A → Bool) (lending : A → Effect) (now : ℕ) (m : Model) (e : Effect) : Type 0 where
   pub the : A
-  pub there : lookup key (key the) xs ≡ some the
+  pub there : lookup key (key the) xs ≡ Some the
   pub queued : ready the ≡ true
   pub first : AllBehind now m (key the) (rank the)
   pub lends : e ≡ lending the
@@ -187,7 +186,7 @@ DequeueIsBest =
     ⊎ (GoesOut m.unicasts unicast_id (λ u. rank_of u.priority) (uni.ready now) (unicast_goes m) now m (dequeue_of m now)
     ⊎ GoesOut m.broadcasts broadcast_id (λ b. rank_of b.priority) (bro.ready now) (broadcast_goes m) now m (dequeue_of m now))
 
--- and nothing exactly when none is there
+-- and nothing exactly when None is there
 abbrev pub NothingExactly : Type 0
 NothingExactly = (m : Model) (now : ℕ) → SoundModel m → now ≤ last_time → ((dequeue_of m now).answer ≡ NothingQueued) ↔ NoneWaits now m
 
@@ -224,10 +223,10 @@ broadcast_wakes m = flat (λ (b : Broadcast). broadcast_times b.deadline b.sched
 abbrev pub wakes_of : Model → List ℕ
 wakes_of m = unicast_wakes m ++ (unrouted_wakes m ++ broadcast_wakes m)
 
--- one of the times, and none is sooner; or nothing, where there are none
-abbrev pub IsLeast : List ℕ → Opt64 → Type 0
-IsLeast ts None64 = ts ≡ []
-IsLeast ts (Some64 t) = Memᴰ t ts × All (λ (y : ℕ). t ≤ y) ts
+-- one of the times, and None is sooner; or nothing, where there are None
+abbrev pub IsLeast : List ℕ → Option ℕ → Type 0
+IsLeast ts None = ts ≡ []
+IsLeast ts (Some t) = Memᴰ t ts × All (λ (y : ℕ). t ≤ y) ts
 
 -- NEXT WAKE is the least of them
 abbrev pub WakeIsLeast : Type 0
@@ -247,8 +246,8 @@ Each2 P (x ∷ xs) (y ∷ ys) = P x y × Each2 P xs ys
 
 -- a send has its result: a success is in the unicasts under its id, an error is told as settled with its code
 abbrev pub Met : Settings → ℕ → List Unicast → List Action → Unrouted → Resolved → Type 0
-Met s now us acts u (Reached hop a) = lookup unicast_id u.id us ≡ some (routed s now u hop a)
-Met s now us acts u (Unreached c) = Memᴰ (Settled (unrouted_entry u) (Code c) None16) acts
+Met s now us acts u (Reached hop a) = lookup unicast_id u.id us ≡ Some (routed s now u hop a)
+Met s now us acts u (Unreached c) = Memᴰ (Settled (unrouted_entry u) (Code c) None) acts
 
 pub record RouteDone (m : Model) (s : Settings) (d now : ℕ) (rs : List Resolved) (e : Effect) : Type 0 where
   -- unrouted's tick is told first, then the errors in id order
@@ -273,8 +272,8 @@ RouteMeets =
 abbrev pub CancelLeavesNone : Type 0
 CancelLeavesNone =
     (m : Model) (id : ℕ) → SoundModel m → (cancel_of m id).answer ≡ Accepted
-    → (lookup unicast_id id (cancel_of m id).model.unicasts ≡ none)
-    × ((lookup unrouted_id id (cancel_of m id).model.unrouted ≡ none) × (lookup broadcast_id id (cancel_of m id).model.broadcasts ≡ none))
+    → (lookup unicast_id id (cancel_of m id).model.unicasts ≡ None)
+    × ((lookup unrouted_id id (cancel_of m id).model.unrouted ≡ None) × (lookup broadcast_id id (cancel_of m id).model.broadcasts ≡ None))
 
 -- a broadcast is settled, and then its copies in id order; it and they are gone, and the others of both tables stay
 pub record CastCancelled (m : Model) (id : ℕ) (b : Broadcast) (e : Effect) : Type 0 where
@@ -286,5 +285,5 @@ pub record CastCancelled (m : Model) (id : ℕ) (b : Broadcast) (e : Effect) : T
 -- AN ACCEPTED CANCEL OF A BROADCAST does that
 abbrev pub CancelTakesCopies : Type 0
 CancelTakesCopies =
-    (m : Model) (id : ℕ) (b : Broadcast) → SoundModel m → lookup broadcast_id id m.broadcasts ≡ some b → (cancel_of m id).answer ≡ Accepted
+    (m : Model) (id : ℕ) (b : Broadcast) → SoundModel m → lookup broadcast_id id m.broadcasts ≡ Some b → (cancel_of m id).answer ≡ Accepted
     → CastCancelled m id b (cancel_of m id)

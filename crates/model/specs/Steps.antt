@@ -1,9 +1,9 @@
 -- Every call as data, and what one call does: its outcome, by cases. Histories of calls, the trace and the claims are over this.
-use Rattle.std.specs.Prelude.{ℕ, List, [], ◌∷◌, map}
+use Rattle.std.specs.Prelude.{ℕ, List, [], ◌∷◌, map, Option, None, Some}
 use Rattle.records.specs.Pick.{pick}
 use Rattle.rows.specs.Lists.{fold, insert_by}
 use Rattle.rows.specs.Moves.{any_of}
-use Rattle.model.specs.Types.{Opt16, Opt64, None64, Some64, Address, AckKey, QuorumKey, Unicast, Destination, Settings, TxResult, Entry, Action, MapMalformed, Book, Shorts, Longs, NewUnicast, NewUnrouted, NewBroadcast, Resolved, Lender, Answer, Denied, Replied}
+use Rattle.model.specs.Types.{Address, AckKey, QuorumKey, Unicast, Destination, Settings, TxResult, Entry, Action, MapMalformed, Book, Shorts, Longs, NewUnicast, NewUnrouted, NewBroadcast, Resolved, Lender, Answer, Denied, Replied}
 use Rattle.model.specs.Model.{Model, Effect}
 use Rattle.model.specs.Calls.{enqueue_unicast_of, enqueue_copy_of, enqueue_unrouted_of, enqueue_broadcast_of, dequeue_of, transmitted_of, poll_of, ack_of, retry_of, fail_of, route_of, delivered_of, drop_of, cancel_of, tick_of, wake_of, abandoned, emptied}
 use Rattle.sending.specs.Rules.{pends}
@@ -18,13 +18,13 @@ pub data Call : Type 0 where
   EnqueueBroadcast : Settings → NewBroadcast → ℕ → Call
   Dequeue : ℕ → Call
   Transmitted : Lender → ℕ → ℕ → TxResult → ℕ → ℕ → Call
-  Poll : Opt64 → Opt16 → ℕ → Call
+  Poll : Option ℕ → Option ℕ → ℕ → Call
   AckReceived : AckKey → Call
   RetryDiscovery : ℕ → Call
   FailUnrouted : ℕ → Call
   RouteUnicasts : Settings → ℕ → ℕ → ℕ → List Resolved → Call
   Delivered : QuorumKey → Call
-  DropIndirect : Opt64 → ℕ → Call
+  DropIndirect : Option ℕ → ℕ → Call
   Cancel : ℕ → Call
   Tick : ℕ → Call
   Abandon : Call
@@ -38,7 +38,7 @@ pub data Call : Type 0 where
 -- what a call says besides its actions: an answer, a time, addresses, keys, two sets, or the sends that are abandoned
 pub data Reply : Type 0 where
   Says : Answer → Reply
-  Wakes : Opt64 → Reply
+  Wakes : Option ℕ → Reply
   Lists : List ℕ → Reply
   Keys : List QuorumKey → Reply
   Matches : List ℕ → List ℕ → Reply
@@ -56,9 +56,9 @@ abbrev pub destinations_of : Model → List ℕ
 destinations_of m = map (λ (d : Destination). d.address) m.held
 
 -- a source-match set: what each send puts into it, rising, each once
-abbrev pub adding : Opt64 → List ℕ → List ℕ
-adding None64 xs = xs
-adding (Some64 x) xs = insert_by (λ (y : ℕ). y) x xs
+abbrev pub adding : Option ℕ → List ℕ → List ℕ
+adding None xs = xs
+adding (Some x) xs = insert_by (λ (y : ℕ). y) x xs
 
 abbrev pub members_of : Book → List ℕ → List ℕ → List Unicast → List ℕ
 members_of book es ns us = fold (λ (u : Unicast) (xs : List ℕ). adding (member_of book es ns u) xs) [] us

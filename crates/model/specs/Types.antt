@@ -1,10 +1,4 @@
 -- The declared types that the calls speak of, under one name.
-pub use Rattle.records.specs.declared.Opt16.{Opt16}
-pub use Rattle.records.specs.declared.Opt16.TheVariants.{None16}
-pub use Rattle.records.specs.declared.Opt32.{Opt32}
-pub use Rattle.records.specs.declared.Opt32.TheVariants.{None32, Some32}
-pub use Rattle.records.specs.declared.Opt64.{Opt64}
-pub use Rattle.records.specs.declared.Opt64.TheVariants.{None64, Some64}
 pub use Rattle.records.specs.declared.Address.{Address}
 pub use Rattle.records.specs.declared.AckKey.{AckKey}
 pub use Rattle.records.specs.declared.QuorumKey.{QuorumKey}
@@ -22,13 +16,8 @@ pub use Rattle.records.specs.declared.Action.{Action}
 pub use Rattle.records.specs.declared.Action.TheVariants.{Settled}
 pub use Rattle.records.specs.declared.Refusal.{Refusal}
 pub use Rattle.records.specs.declared.Refusal.TheVariants.{TimeTooLate, IdsExhausted, NoCopies, NoPlace, NoSuchSend, InTheRadio, DestinationNotHeld, ResultsMismatch, MapMalformed}
-pub use Rattle.sending.specs.declared.Best.{Best}
-pub use Rattle.sending.specs.declared.Best.TheVariants.{NoneReady, Ready}
-pub use Rattle.sending.specs.declared.Loan.{Loan}
-pub use Rattle.sending.specs.declared.Loan.TheVariants.{NoLoan, Lent}
 pub use Rattle.sending.specs.declared.Book.{Book}
 pub use Rattle.sending.specs.declared.Book.TheVariants.{Shorts, Longs}
-pub use Rattle.casting.specs.declared.Best.TheVariants.{NoBest, BestIs}
 pub use Rattle.unrouted.specs.declared.Which.TheVariants.{Lapsed, Bound}
 pub use Rattle.unrouted.specs.declared.Retry.{Retry}
 pub use Rattle.unrouted.specs.declared.Retry.TheVariants.{NotHeld, Declined, Granted}

@@ -6,7 +6,7 @@ ghost use Rattle.std.specs.Prelude.{◌≡◌, ◌≤◌, IfOk};
 ghost use Rattle.model.specs.Sound.{Sound};
 
 use model::{Answer, Answered, Lender, NewUnicast, Sends, Transmit};
-use records::{Action, Address, Confirm, Opt16, Opt64, Priority, TxResult, Verdict};
+use records::{Action, Address, Confirm, Priority, TxResult, Verdict};
 use std::io;
 use std::io::Print;
 
@@ -113,7 +113,7 @@ fn poll(
     let s = g.sends;
     words::call(rt, clock, b"poll by ")?;
     words::address(rt, Address::Extended(device))?;
-    let x = sends::poll(s, told, Opt64::Some64(device), Opt16::None16, clock);
+    let x = sends::poll(s, told, Some(device), None, clock);
     heard(rt, x, told, g.lit)
 }
 

@@ -1,7 +1,7 @@
 // What the calls answer and what the driver must do, in plain words on standard output. Each function, and those of main.rt that call
 // it, stops at the first write that fails and answers that error, and no other; what was written before it stands.
 use model::{Answer, Transmit};
-use records::{Action, Address, Entry, Opt16, Opt64, Refusal, SendFailure, TxResult, Verdict};
+use records::{Action, Address, Entry, Refusal, SendFailure, TxResult, Verdict};
 use std::io;
 use std::io::Print;
 
@@ -128,10 +128,10 @@ fn verdict(rt: &impl Print, v: Verdict) -> io::Result<()> {
     }
 }
 
-fn last_hop(rt: &impl Print, hop: Opt16) -> io::Result<()> {
+fn last_hop(rt: &impl Print, hop: Option<u16>) -> io::Result<()> {
     match hop {
-        Opt16::None16 => text(rt, b"\n"),
-        Opt16::Some16(x) => {
+        None => text(rt, b"\n"),
+        Some(x) => {
             text(rt, b", attempts ran out at next hop 0x")?;
             print!(rt; "{x:04x}")?;
             text(rt, b"\n")
@@ -139,7 +139,7 @@ fn last_hop(rt: &impl Print, hop: Opt16) -> io::Result<()> {
     }
 }
 
-fn settled(rt: &impl Print, e: Entry, v: Verdict, hop: Opt16) -> io::Result<()> {
+fn settled(rt: &impl Print, e: Entry, v: Verdict, hop: Option<u16>) -> io::Result<()> {
     text(rt, b"    settled: id ")?;
     number(rt, e.id as u64)?;
     text(rt, b", waiter ")?;
@@ -173,10 +173,10 @@ pub(crate) fn replied(rt: &impl Print, b: bool) -> io::Result<()> {
 }
 
 // The answer of a question: when the driver's timer must call the next tick, if ever.
-pub(crate) fn wake(rt: &impl Print, t: Opt64) -> io::Result<()> {
+pub(crate) fn wake(rt: &impl Print, t: Option<u64>) -> io::Result<()> {
     match t {
-        Opt64::None64 => text(rt, b" -> never\n"),
-        Opt64::Some64(t) => {
+        None => text(rt, b" -> never\n"),
+        Some(t) => {
             text(rt, b" -> at ")?;
             number(rt, t)?;
             text(rt, b" ms\n")

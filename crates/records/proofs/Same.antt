@@ -1,22 +1,23 @@
 -- The tests of sameness hold exactly of equals. Assumes nothing.
+use Rattle.std.specs.Prelude.{Option, None, Some, ℕ}
 use mathlib.Core.Path.{◌≡◌, refl, ap}
 use mathlib.Core.Bool.{true}
 use borrow.Author.Tests.{eqb-true, eq-eqb}
 use Rattle.records.proofs.Cases.{never, both}
-use Rattle.records.specs.Types.{Opt8, None8, Some8, Opt16, None16, Some16, Address, Absent, Short, Extended, AckKey, QuorumKey}
+use Rattle.records.specs.Types.{Address, Absent, Short, Extended, AckKey, QuorumKey}
 use Rattle.records.specs.Same.{same8, same16, same_address, same_ack_key, same_quorum_key}
 
-pub equal8 : (a b : Opt8) → same8 a b ≡ true → a ≡ b
-equal8 None8 None8 e = refl
-equal8 None8 (Some8 y) e = never e
-equal8 (Some8 x) None8 e = never e
-equal8 (Some8 x) (Some8 y) e = ap Some8 (eqb-true x y e)
+pub equal8 : (a b : Option ℕ) → same8 a b ≡ true → a ≡ b
+equal8 None None e = refl
+equal8 None (Some y) e = never e
+equal8 (Some x) None e = never e
+equal8 (Some x) (Some y) e = ap Some (eqb-true x y e)
 
-pub equal16 : (a b : Opt16) → same16 a b ≡ true → a ≡ b
-equal16 None16 None16 e = refl
-equal16 None16 (Some16 y) e = never e
-equal16 (Some16 x) None16 e = never e
-equal16 (Some16 x) (Some16 y) e = ap Some16 (eqb-true x y e)
+pub equal16 : (a b : Option ℕ) → same16 a b ≡ true → a ≡ b
+equal16 None None e = refl
+equal16 None (Some y) e = never e
+equal16 (Some x) None e = never e
+equal16 (Some x) (Some y) e = ap Some (eqb-true x y e)
 
 pub equal-address : (a b : Address) → same_address a b ≡ true → a ≡ b
 equal-address Absent Absent e = refl
@@ -60,13 +61,13 @@ equal-quorum-key a b e =
 
 -- ---- and each is the same as itself
 
-pub itself8 : (a : Opt8) → same8 a a ≡ true
-itself8 None8 = refl
-itself8 (Some8 x) = eq-eqb x x refl
+pub itself8 : (a : Option ℕ) → same8 a a ≡ true
+itself8 None = refl
+itself8 (Some x) = eq-eqb x x refl
 
-pub itself16 : (a : Opt16) → same16 a a ≡ true
-itself16 None16 = refl
-itself16 (Some16 x) = eq-eqb x x refl
+pub itself16 : (a : Option ℕ) → same16 a a ≡ true
+itself16 None = refl
+itself16 (Some x) = eq-eqb x x refl
 
 pub itself-address : (a : Address) → same_address a a ≡ true
 itself-address Absent = refl

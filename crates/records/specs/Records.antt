@@ -1,6 +1,6 @@
 -- The blank record of each table, and what a record is kept under and known by.
-use Rattle.std.specs.Prelude.{ℕ, false}
-use Rattle.records.specs.Types.{Unicast, Unrouted, Broadcast, Destination, Entry, Background, OnHandoff, Absent, Queued, None32, None16, Once, Idle}
+use Rattle.std.specs.Prelude.{ℕ, false, None}
+use Rattle.records.specs.Types.{Unicast, Unrouted, Broadcast, Destination, Entry, Background, OnHandoff, Absent, Queued, Once, Idle}
 
 -- zeros and first variants
 abbrev pub blank_unicast : Unicast
@@ -16,7 +16,7 @@ blank_unicast =
       attempts_remaining = 0;
       stage = Queued;
       deadline = 0;
-      copy_of = None32;
+      copy_of = None;
     }
 
 abbrev pub blank_unrouted : Unrouted
@@ -33,7 +33,7 @@ blank_broadcast =
       copy = Idle;
       handed_off = false;
       quorum_heard = false;
-      last_error = None16;
+      last_error = None;
       deadline = 0;
     }
 

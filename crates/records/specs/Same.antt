@@ -1,18 +1,18 @@
 -- When two optional numbers, addresses or keys are the same one. (proofs/Same: exactly when they are equal.)
-use Rattle.std.specs.Prelude.{Bool, true, false, ◌&&◌, eqb}
-use Rattle.records.specs.Types.{Opt8, None8, Some8, Opt16, None16, Some16, Address, Absent, Short, Extended, AckKey, QuorumKey}
+use Rattle.std.specs.Prelude.{Bool, true, false, ◌&&◌, eqb, Option, None, Some, ℕ}
+use Rattle.records.specs.Types.{Address, Absent, Short, Extended, AckKey, QuorumKey}
 
-abbrev pub same8 : Opt8 → Opt8 → Bool
-same8 None8 None8 = true
-same8 None8 (Some8 y) = false
-same8 (Some8 x) None8 = false
-same8 (Some8 x) (Some8 y) = eqb x y
+abbrev pub same8 : Option ℕ → Option ℕ → Bool
+same8 None None = true
+same8 None (Some y) = false
+same8 (Some x) None = false
+same8 (Some x) (Some y) = eqb x y
 
-abbrev pub same16 : Opt16 → Opt16 → Bool
-same16 None16 None16 = true
-same16 None16 (Some16 y) = false
-same16 (Some16 x) None16 = false
-same16 (Some16 x) (Some16 y) = eqb x y
+abbrev pub same16 : Option ℕ → Option ℕ → Bool
+same16 None None = true
+same16 None (Some y) = false
+same16 (Some x) None = false
+same16 (Some x) (Some y) = eqb x y
 
 abbrev pub same_address : Address → Address → Bool
 same_address Absent Absent = true

@@ -3,10 +3,7 @@
 ghost use Rattle.std.specs.Prelude.{◌≡◌};
 ghost use Rattle.records.specs.Records.{blank_unicast, blank_unrouted, blank_broadcast, blank_destination, unicast_entry, unrouted_entry, broadcast_entry};
 
-use crate::{
-    Address, Broadcast, Confirm, CopyState, Destination, Entry, Opt16, Opt32, Priority, Schedule,
-    Stage, Unicast, Unrouted,
-};
+use crate::{Address, Broadcast, Confirm, CopyState, Destination, Entry, Priority, Schedule, Stage, Unicast, Unrouted};
 
 pub fn blank_unicast() -> Unicast
     ensures { result ≡ blank_unicast }
@@ -22,7 +19,7 @@ pub fn blank_unicast() -> Unicast
         attempts_remaining: 0,
         stage: Stage::Queued,
         deadline: 0,
-        copy_of: Opt32::None32,
+        copy_of: None,
     }
 }
 
@@ -52,7 +49,7 @@ pub fn blank_broadcast() -> Broadcast
         copy: CopyState::Idle,
         handed_off: false,
         quorum_heard: false,
-        last_error: Opt16::None16,
+        last_error: None,
         deadline: 0,
     }
 }

@@ -2,34 +2,34 @@
 ghost use Rattle.std.specs.Prelude.{◌≡◌};
 ghost use Rattle.records.specs.Same.{same8, same16, same_address, same_ack_key, same_quorum_key};
 
-use crate::{AckKey, Address, Opt8, Opt16, QuorumKey};
+use crate::{AckKey, Address, QuorumKey};
 
-pub fn same_8(a: Opt8, b: Opt8) -> bool
+pub fn same_8(a: Option<u8>, b: Option<u8>) -> bool
     ensures { result ≡ same8 a b }
 {
     match a {
-        Opt8::None8 => match b {
-            Opt8::None8 => true,
-            Opt8::Some8(_) => false,
+        None => match b {
+            None => true,
+            Some(_) => false,
         },
-        Opt8::Some8(x) => match b {
-            Opt8::None8 => false,
-            Opt8::Some8(y) => x == y,
+        Some(x) => match b {
+            None => false,
+            Some(y) => x == y,
         },
     }
 }
 
-pub fn same_16(a: Opt16, b: Opt16) -> bool
+pub fn same_16(a: Option<u16>, b: Option<u16>) -> bool
     ensures { result ≡ same16 a b }
 {
     match a {
-        Opt16::None16 => match b {
-            Opt16::None16 => true,
-            Opt16::Some16(_) => false,
+        None => match b {
+            None => true,
+            Some(_) => false,
         },
-        Opt16::Some16(x) => match b {
-            Opt16::None16 => false,
-            Opt16::Some16(y) => x == y,
+        Some(x) => match b {
+            None => false,
+            Some(y) => x == y,
         },
     }
 }

@@ -7,31 +7,6 @@ pub mod numbers;
 pub mod priorities;
 pub mod times;
 
-// An optional number of each width. The first variant is the absent one, so that a blank record has nothing in it.
-#[derive(Clone, Copy)]
-pub enum Opt8 {
-    None8,
-    Some8(u8),
-}
-
-#[derive(Clone, Copy)]
-pub enum Opt16 {
-    None16,
-    Some16(u16),
-}
-
-#[derive(Clone, Copy)]
-pub enum Opt32 {
-    None32,
-    Some32(u32),
-}
-
-#[derive(Clone, Copy)]
-pub enum Opt64 {
-    None64,
-    Some64(u64),
-}
-
 // The address that a device polls under.
 #[derive(Clone, Copy)]
 pub enum Address {
@@ -55,10 +30,10 @@ pub enum Priority {
 #[derive(Clone, Copy)]
 pub struct AckKey {
     pub src: u16,
-    pub destination_endpoint: Opt8,
-    pub cluster_id: Opt16,
-    pub profile_id: Opt16,
-    pub source_endpoint: Opt8,
+    pub destination_endpoint: Option<u8>,
+    pub cluster_id: Option<u16>,
+    pub profile_id: Option<u16>,
+    pub source_endpoint: Option<u8>,
     pub counter: u8,
 }
 
@@ -92,7 +67,7 @@ pub struct Unicast {
     pub attempts_remaining: u8,
     pub stage: Stage,
     pub deadline: u64,
-    pub copy_of: Opt32,
+    pub copy_of: Option<u32>,
 }
 
 // A unicast that waits for a route to its destination.
@@ -155,7 +130,7 @@ pub struct Broadcast {
     pub copy: CopyState,
     pub handed_off: bool,
     pub quorum_heard: bool,
-    pub last_error: Opt16,
+    pub last_error: Option<u16>,
     pub deadline: u64,
 }
 
@@ -207,7 +182,7 @@ pub struct Entry {
 #[derive(Clone, Copy)]
 pub enum Action {
     HandedOff(u32, u32),
-    Settled(Entry, Verdict, Opt16),
+    Settled(Entry, Verdict, Option<u16>),
 }
 
 // Why a call or a trace is refused, in the order of the numbers 1 to 16.

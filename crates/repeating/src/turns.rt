@@ -5,9 +5,7 @@ ghost use Rattle.casting.specs.Types.{Sent, Failed, CopyQueued, PassiveAck, Fixe
 ghost use Rattle.casting.specs.Rules.{turn_b, remade, first_copy, admitted_of, no_copies, in_radio, lent, cancel_turn, result_verdict, repeat_turn, report_turn, delivered_turn, over_verdict, last_verdict, over_turn, lapse_turn, due_turn, idle_turn, tick_turn};
 
 use casting::TurnB;
-use records::{
-    Broadcast, CopyState, Opt16, Priority, QuorumKey, Schedule, SendFailure, TxResult, Verdict,
-};
+use records::{Broadcast, CopyState, Priority, QuorumKey, Schedule, SendFailure, TxResult, Verdict};
 
 fn first_copy(s: Schedule) -> CopyState
     ensures { result ≡ first_copy s }
@@ -50,7 +48,7 @@ pub fn admitted(
         copy: c,
         handed_off: false,
         quorum_heard: false,
-        last_error: Opt16::None16,
+        last_error: None,
         deadline: clock + handoff as u64,
     }
 }
@@ -91,7 +89,7 @@ fn remake(
     copy: CopyState,
     handed: bool,
     heard: bool,
-    last: Opt16,
+    last: Option<u16>,
 ) -> Broadcast
     ensures { result ≡ remade b schedule copy handed heard last }
 {
@@ -163,7 +161,7 @@ fn repeat_failed(b: Broadcast, s: Schedule, code: u16) -> TurnB
         CopyState::Idle,
         b.handed_off,
         b.quorum_heard,
-        Opt16::Some16(code),
+        Some(code),
     ))
 }
 
@@ -243,12 +241,12 @@ fn over_verdict(s: Schedule) -> Verdict
     }
 }
 
-fn last_verdict(e: Opt16) -> Verdict
+fn last_verdict(e: Option<u16>) -> Verdict
     ensures { result ≡ last_verdict e }
 {
     match e {
-        Opt16::None16 => Verdict::Code(0),
-        Opt16::Some16(code) => Verdict::Code(code),
+        None => Verdict::Code(0),
+        Some(code) => Verdict::Code(code),
     }
 }
 

@@ -1,13 +1,12 @@
 -- The laws of tables in lent words. A table is told by its list: what each change of words makes of it. Over any kind of table whose layout is
 -- lawful. Assumes nothing.
+use Rattle.std.specs.Prelude.{Option, None, Some, option_map}
 use Prim.Native.Nat.{ℕ, zero, suc, ◌+◌, ◌-◌, ◌*◌, ◌≤◌, ◌<◌}
 use native.Mathlib.Omega.{arith}
 use native.Mathlib.Numerals.{add-one}
 use native.Mathlib.Nat.{mul-le-mul_right}
 use mathlib.Core.Path.{◌≡◌, refl, sym, ap, ap₂, ◌∙◌}
 use mathlib.Core.List.{List, [], ◌∷◌, ◌++◌, map}
-use mathlib.Core.Option
-use mathlib.Core.Option.{Option, none, some}
 use lib.ListN.{length, take, drop, get_or, set, replicate, length-append, length-replicate, length-set}
 use lib.Seq.{sets, take-append_seam, get_or-take, set-append_left}
 use lib.Dec.{ltb, eqb}
@@ -73,7 +72,7 @@ module _ {A : Type 0} (key : A → ℕ) (enc : A → List ℕ) (first : (x : A) 
   find-map : (k : ℕ) (xs : List A) → find_by first_word k (map enc xs) ≡ find_by key k xs
   find-map k [] = refl
   find-map k (x ∷ xs) =
-      ap₂ (λ (m : ℕ) (o : Option ℕ). pick (eqb m k) (some 0) (Option.map suc o)) (first x) (find-map k xs)
+      ap₂ (λ (m : ℕ) (o : Option ℕ). pick (eqb m k) (Some 0) (option_map suc o)) (first x) (find-map k xs)
 
   place_map : (k : ℕ) (xs : List A) → place_of first_word k (map enc xs) ≡ place_of key k xs
   place_map k [] = refl
@@ -217,7 +216,7 @@ module _ {A : Type 0} {t : Table A} (l : Lawful t) where
         (all_set Exact i u xs p.back held-exact)
 
     -- a place is opened where the key of u belongs, and u is put there
-    pub holds_opened : {ws₁ ws' : List ℕ} {i : ℕ} {u : A} → n < t.room → find_by t.key (t.key u) (live t ws n) ≡ none
+    pub holds_opened : {ws₁ ws' : List ℕ} {i : ℕ} {u : A} → n < t.room → find_by t.key (t.key u) (live t ws n) ≡ None
         → i ≡ place_of t.key (t.key u) (live t ws n) → ws₁ ≡ opened t.layout.width n i ws → Put t ws₁ i u ws'
         → Holds t ws' (n + 1) (insert_by t.key u (live t ws n))
     unfolding words_for

@@ -1,12 +1,12 @@
 -- Lists of records in rising key: where a key has its place, and what finding, inserting and removing do to one another. Over any type of
 -- records and any key. Assumes nothing.
+use Rattle.std.specs.Prelude.{None, Some, option_map}
 use Prim.Native.Nat.{ℕ, zero, suc, ◌≤◌, ◌<◌, suc-le-suc}
 use native.Mathlib.Nat.{le_of_suc-le-suc}
 use native.Mathlib.Omega.{arith}
 use mathlib.Core.Path.{◌≡◌, refl, ap}
 use mathlib.Core.List.{List, [], ◌∷◌}
 use mathlib.Core.Logic.{◌⊎◌, inl, inr, ⊎_elim}
-use mathlib.Core.Option.{none, some, map}
 use lib.ListN.{length, get_or, set}
 use borrow.Author.Tests.{lt-ltb, le-ltb, eq-eqb, ne_eqb}
 use Rattle.records.proofs.Cases.{lt-or-le, eq-or-ne}
@@ -50,44 +50,44 @@ module _ {A : Type 0} (key : A → ℕ) where
 
   -- the record at the place has the key: it is found there
   pub find-hit : (k : ℕ) (xs : List A) (d : A) → place_of key k xs < length xs → key (get_or xs (place_of key k xs) d) ≡ k
-      → find_by key k xs ≡ some (place_of key k xs)
+      → find_by key k xs ≡ Some (place_of key k xs)
   find-hit k [] d n e = absurd (omega arith)
   find-hit k (y ∷ ys) d n e =
       ⊎_elim
       (λ l.
       rw (lt-ltb (key y) k l, ne_eqb (key y) k (λ q. omega arith))
-      (ap (map suc) (find-hit k ys d (le_of_suc-le-suc (rw (lt-ltb (key y) k l) at n)) (rw (lt-ltb (key y) k l) at e))))
+      (ap (option_map suc) (find-hit k ys d (le_of_suc-le-suc (rw (lt-ltb (key y) k l) at n)) (rw (lt-ltb (key y) k l) at e))))
       (λ l. rw (le-ltb (key y) k l, eq-eqb (key y) k (rw (le-ltb (key y) k l) at e)))
       (lt-or-le (key y) k)
 
   -- nothing is found among records that start past k
-  pub find_past : (lo k : ℕ) (xs : List A) → Rising key lo xs → k < lo → find_by key k xs ≡ none
+  pub find_past : (lo k : ℕ) (xs : List A) → Rising key lo xs → k < lo → find_by key k xs ≡ None
   find_past lo k [] r h = refl
   find_past lo k (y ∷ ys) r h =
-      rw (ne_eqb (key y) k (λ q. omega arith)) (ap (map suc) (find_past (suc (key y)) k ys r.1 (omega arith)))
+      rw (ne_eqb (key y) k (λ q. omega arith)) (ap (option_map suc) (find_past (suc (key y)) k ys r.1 (omega arith)))
 
   -- there is no record at the place, or its key is another: nothing is found
   pub find-miss : (lo k : ℕ) (xs : List A) (d : A) → Rising key lo xs → (place_of key k xs < length xs → key (get_or xs (place_of key k xs) d) ≡ k → ⊥)
-      → find_by key k xs ≡ none
+      → find_by key k xs ≡ None
   find-miss lo k [] d r n = refl
   find-miss lo k (y ∷ ys) d r n =
       ⊎_elim
       (λ l.
       rw (ne_eqb (key y) k (λ q. omega arith))
-      (ap (map suc) (find-miss (suc (key y)) k ys d r.1 (λ h e. rw (lt-ltb (key y) k l) at n (suc-le-suc h) e))))
+      (ap (option_map suc) (find-miss (suc (key y)) k ys d r.1 (λ h e. rw (lt-ltb (key y) k l) at n (suc-le-suc h) e))))
       (λ l.
       let m : key y ≡ k → ⊥ = rw (le-ltb (key y) k l) at n (omega arith) in
-      rw (ne_eqb (key y) k m) (ap (map suc) (find_past (suc (key y)) k ys r.1 (omega arith))))
+      rw (ne_eqb (key y) k m) (ap (option_map suc) (find_past (suc (key y)) k ys r.1 (omega arith))))
       (lt-or-le (key y) k)
 
   -- the two cases of finding
   pub record Hit (k : ℕ) (xs : List A) (d : A) : Type 0 where
-    pub finds : find_by key k xs ≡ some (place_of key k xs)
+    pub finds : find_by key k xs ≡ Some (place_of key k xs)
     pub there : place_of key k xs < length xs
     pub has : key (get_or xs (place_of key k xs) d) ≡ k
 
   pub record Miss (k : ℕ) (xs : List A) (d : A) : Type 0 where
-    pub finds : find_by key k xs ≡ none
+    pub finds : find_by key k xs ≡ None
     pub lacks : place_of key k xs < length xs → key (get_or xs (place_of key k xs) d) ≡ k → ⊥
 
   pub hit-or-miss : (lo k : ℕ) (xs : List A) (d : A) → Rising key lo xs → Hit k xs d ⊎ Miss k xs d
@@ -97,14 +97,14 @@ module _ {A : Type 0} (key : A → ℕ) where
       miss f = record { finds = find-miss lo k xs d r f; lacks = f }
 
   -- what is found stands at the place of its key
-  pub found : (lo k : ℕ) (xs : List A) (i : ℕ) (d : A) → Rising key lo xs → find_by key k xs ≡ some i → (i ≡ place_of key k xs) × Hit k xs d
+  pub found : (lo k : ℕ) (xs : List A) (i : ℕ) (d : A) → Rising key lo xs → find_by key k xs ≡ Some i → (i ≡ place_of key k xs) × Hit k xs d
   found lo k xs i d r e =
       ⊎_elim
       (λ h. let f = h.finds in (cc, h))
       (λ h. let f = h.finds in let z : ◌≡◌ {A = ℕ} 0 1 = cc in absurd (omega arith))
       (hit-or-miss lo k xs d r)
 
-  pub not_found : (lo k : ℕ) (xs : List A) (d : A) → Rising key lo xs → find_by key k xs ≡ none → Miss k xs d
+  pub not_found : (lo k : ℕ) (xs : List A) (d : A) → Rising key lo xs → find_by key k xs ≡ None → Miss k xs d
   not_found lo k xs d r e =
       ⊎_elim (λ h. let f = h.finds in let z : ◌≡◌ {A = ℕ} 0 1 = cc in absurd (omega arith)) (λ h. h) (hit-or-miss lo k xs d r)
 

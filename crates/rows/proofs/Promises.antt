@@ -1,6 +1,7 @@
 -- What the table part promises, and all that the crates above may cite of it. Of lists in rising key: what inserting and removing keep, how many
 -- they leave, and what is found after them. Of a held table: what its places hold, and when an insert is refused. Of the four moves: what each does to
 -- order, length, look-up and counts, and how code that finds, stores and removes makes them. Over any kind of table. Assumes nothing.
+use Rattle.std.specs.Prelude.{Option, None, Some, option_map}
 use Prim.Native.Nat.{ℕ, zero, suc, ◌+◌, ◌-◌, ◌≤◌, ◌<◌}
 use native.Mathlib.Numerals.{add-one}
 use native.Mathlib.Nat.{zero-add, add-zero, add-suc, suc-add}
@@ -9,8 +10,6 @@ use mathlib.Core.Path.{◌≡◌, refl, sym, ap, ◌∙◌, subst⁻¹}
 use mathlib.Core.Bool.{Bool, true, false}
 use mathlib.Core.List.{List, [], ◌∷◌, ◌++◌, map}
 use mathlib.Core.Logic.{⊎_elim}
-use mathlib.Core.Option
-use mathlib.Core.Option.{Option, none, some}
 use Rattle.records.specs.declared.Entry.{Entry}
 use Rattle.records.specs.declared.Action.{Action}
 use Rattle.records.specs.declared.Action.TheVariants.{HandedOff, Settled}
@@ -21,10 +20,6 @@ use borrow.Author.Tests.{lt-ltb, le-ltb, eq-eqb, ne_eqb, lt-leb, leb-false}
 use Rattle.records.specs.Pick.{pick, bit}
 use Rattle.records.proofs.Cases.{lt-or-le, eq-or-ne, either, never}
 use Rattle.rows.specs.Lists.{place_of, find_by, lookup, insert_by, remove_by, remove_at, fold, All, Rising, place_at, inserted_of}
-use Rattle.rows.specs.declared.Place.{Place}
-use Rattle.rows.specs.declared.Place.TheVariants.{Nowhere, Here}
-use Rattle.rows.specs.declared.Inserted.{Inserted}
-use Rattle.rows.specs.declared.Inserted.TheVariants.{Full, Holding}
 use Rattle.rows.specs.Tables.{Table, rows_of, live, Held, Holds, Then, Entered}
 use Rattle.rows.specs.Moves.{Turn, kept, told, each, at_first, first_of, first_at, place_from, placed, any_of, count, each_told, at_first_told, id_of, has_id, Same, settled_of}
 use Rattle.rows.specs.Moves.Turn.{Keeps, HandsOff, Settles}
@@ -72,18 +67,18 @@ module _ {A : Type 0} (key : A → ℕ) where
 
   -- ---- how many
 
-  pub length-insert-miss : (lo : ℕ) (x : A) (xs : List A) → Rising key lo xs → find_by key (key x) xs ≡ none
+  pub length-insert-miss : (lo : ℕ) (x : A) (xs : List A) → Rising key lo xs → find_by key (key x) xs ≡ None
       → length (insert_by key x xs) ≡ suc (length xs)
   length-insert-miss lo x xs r e =
       ap length (insert-miss key x xs x (not_found key lo (key x) xs x r e).lacks) ∙ length-insert_at (place_of key (key x) xs) x xs
 
-  pub length-insert-hit : (lo : ℕ) (x : A) (xs : List A) (i : ℕ) → Rising key lo xs → find_by key (key x) xs ≡ some i
+  pub length-insert-hit : (lo : ℕ) (x : A) (xs : List A) (i : ℕ) → Rising key lo xs → find_by key (key x) xs ≡ Some i
       → length (insert_by key x xs) ≡ length xs
   length-insert-hit lo x xs i r e =
       let h = (found key lo (key x) xs i x r e).1 in
       ap length (insert-hit key x xs x h.there h.has) ∙ length-set xs (place_of key (key x) xs) x
 
-  pub length-remove-hit : (lo k : ℕ) (xs : List A) (i : ℕ) (d : A) → Rising key lo xs → find_by key k xs ≡ some i
+  pub length-remove-hit : (lo k : ℕ) (xs : List A) (i : ℕ) (d : A) → Rising key lo xs → find_by key k xs ≡ Some i
       → suc (length (remove_by key k xs)) ≡ length xs
   length-remove-hit lo k xs i d r e =
       let h = (found key lo k xs i d r e).1 in
@@ -98,7 +93,7 @@ module _ {A : Type 0} (key : A → ℕ) where
   -- ---- what is looked up
 
   -- what is looked up is what stands where it is found
-  pub lookup-find : (k : ℕ) (xs : List A) (d : A) → lookup key k xs ≡ Option.map (λ (i : ℕ). get_or xs i d) (find_by key k xs)
+  pub lookup-find : (k : ℕ) (xs : List A) (d : A) → lookup key k xs ≡ option_map (λ (i : ℕ). get_or xs i d) (find_by key k xs)
   lookup-find k [] d = refl
   lookup-find k (y ∷ ys) d =
       ⊎_elim
@@ -106,16 +101,16 @@ module _ {A : Type 0} (key : A → ℕ) where
       (λ n. rw (ne_eqb (key y) k n) (lookup-find k ys d ∙ further (find_by key k ys)))
       (eq-or-ne (key y) k)
     where
-      further : (o : Option ℕ) → Option.map (λ (i : ℕ). get_or ys i d) o ≡ Option.map (λ (i : ℕ). get_or (y ∷ ys) i d) (Option.map suc o)
-      further none = refl
-      further (some i) = refl
+      further : (o : Option ℕ) → option_map (λ (i : ℕ). get_or ys i d) o ≡ option_map (λ (i : ℕ). get_or (y ∷ ys) i d) (option_map suc o)
+      further None = refl
+      further (Some i) = refl
 
   -- the record put in is found at the place of its key, and a removed key is not found
-  pub find-insert-same : (x : A) (xs : List A) → find_by key (key x) (insert_by key x xs) ≡ some (place_of key (key x) xs)
+  pub find-insert-same : (x : A) (xs : List A) → find_by key (key x) (insert_by key x xs) ≡ Some (place_of key (key x) xs)
   find-insert-same x [] = rw (eq-eqb (key x) (key x) refl)
   find-insert-same x (y ∷ ys) =
       ⊎_elim
-      (λ l. rw (lt-ltb (key y) (key x) l, ne_eqb (key y) (key x) (λ q. omega arith)) (ap (Option.map suc) (find-insert-same x ys)))
+      (λ l. rw (lt-ltb (key y) (key x) l, ne_eqb (key y) (key x) (λ q. omega arith)) (ap (option_map suc) (find-insert-same x ys)))
       (λ l.
       ⊎_elim
       (λ e. rw (le-ltb (key y) (key x) l, eq-eqb (key y) (key x) e, eq-eqb (key x) (key x) refl))
@@ -123,20 +118,20 @@ module _ {A : Type 0} (key : A → ℕ) where
       (eq-or-ne (key y) (key x)))
       (lt-or-le (key y) (key x))
 
-  pub find-remove-same : (lo k : ℕ) (xs : List A) → Rising key lo xs → find_by key k (remove_by key k xs) ≡ none
+  pub find-remove-same : (lo k : ℕ) (xs : List A) → Rising key lo xs → find_by key k (remove_by key k xs) ≡ None
   find-remove-same lo k [] r = refl
   find-remove-same lo k (y ∷ ys) r =
       ⊎_elim
       (λ e. rw (eq-eqb (key y) k e) (find_past key (suc (key y)) k ys r.1 (omega arith)))
-      (λ n. rw (ne_eqb (key y) k n, ne_eqb (key y) k n) (ap (Option.map suc) (find-remove-same (suc (key y)) k ys r.1)))
+      (λ n. rw (ne_eqb (key y) k n, ne_eqb (key y) k n) (ap (option_map suc) (find-remove-same (suc (key y)) k ys r.1)))
       (eq-or-ne (key y) k)
 
-  pub lookup-past : (lo k : ℕ) (xs : List A) → Rising key lo xs → k < lo → lookup key k xs ≡ none
+  pub lookup-past : (lo k : ℕ) (xs : List A) → Rising key lo xs → k < lo → lookup key k xs ≡ None
   lookup-past lo k [] r h = refl
   lookup-past lo k (y ∷ ys) r h = rw (ne_eqb (key y) k (λ q. omega arith)) (lookup-past (suc (key y)) k ys r.1 (omega arith))
 
   -- the record put in is found under its key, and every other key finds what it found before
-  pub lookup-insert-same : (x : A) (xs : List A) → lookup key (key x) (insert_by key x xs) ≡ some x
+  pub lookup-insert-same : (x : A) (xs : List A) → lookup key (key x) (insert_by key x xs) ≡ Some x
   lookup-insert-same x [] = rw (eq-eqb (key x) (key x) refl)
   lookup-insert-same x (y ∷ ys) =
       ⊎_elim
@@ -152,7 +147,7 @@ module _ {A : Type 0} (key : A → ℕ) where
   lookup-insert-other k x [] n = rw (ne_eqb (key x) k n)
   lookup-insert-other k x (y ∷ ys) n =
       ⊎_elim
-      (λ l. rw (lt-ltb (key y) (key x) l) (ap (pick (eqb (key y) k) (some y)) (lookup-insert-other k x ys n)))
+      (λ l. rw (lt-ltb (key y) (key x) l) (ap (pick (eqb (key y) k) (Some y)) (lookup-insert-other k x ys n)))
       (λ l.
       ⊎_elim
       (λ e. rw (le-ltb (key y) (key x) l, eq-eqb (key y) (key x) e, ne_eqb (key x) k n, ne_eqb (key y) k (λ q. n (sym e ∙ q))))
@@ -161,7 +156,7 @@ module _ {A : Type 0} (key : A → ℕ) where
       (lt-or-le (key y) (key x))
 
   -- a removed key finds nothing, and every other key finds what it found before
-  pub lookup-remove-same : (lo k : ℕ) (xs : List A) → Rising key lo xs → lookup key k (remove_by key k xs) ≡ none
+  pub lookup-remove-same : (lo k : ℕ) (xs : List A) → Rising key lo xs → lookup key k (remove_by key k xs) ≡ None
   lookup-remove-same lo k [] r = refl
   lookup-remove-same lo k (y ∷ ys) r =
       ⊎_elim
@@ -174,7 +169,7 @@ module _ {A : Type 0} (key : A → ℕ) where
   lookup-remove-other j k (y ∷ ys) n =
       ⊎_elim
       (λ e. rw (eq-eqb (key y) j e, ne_eqb (key y) k (λ q. n (sym e ∙ q))))
-      (λ m. rw (ne_eqb (key y) j m) (ap (pick (eqb (key y) k) (some y)) (lookup-remove-other j k ys n)))
+      (λ m. rw (ne_eqb (key y) j m) (ap (pick (eqb (key y) k) (Some y)) (lookup-remove-other j k ys n)))
       (eq-or-ne (key y) j)
 
 -- ---- a held table
@@ -198,13 +193,13 @@ unfolding rows_of
 length-rows_of t ws = length-rows t.layout.width t.layout.record_of t.room ws
 
 -- what find answers says what was found
-pub here-some : (o : Option ℕ) (i : ℕ) → Here i ≡ place_at o → o ≡ some i
-here-some none i e = let z : ◌≡◌ {A = ℕ} 0 1 = cc in absurd (omega arith)
-here-some (some j) i e = cc
+pub here-some : (o : Option ℕ) (i : ℕ) → Some i ≡ place_at o → o ≡ Some i
+here-some None i e = let z : ◌≡◌ {A = ℕ} 0 1 = cc in absurd (omega arith)
+here-some (Some j) i e = cc
 
-pub nowhere-none : (o : Option ℕ) → Nowhere ≡ place_at o → o ≡ none
-nowhere-none none e = refl
-nowhere-none (some j) e = let z : ◌≡◌ {A = ℕ} 0 1 = cc in absurd (omega arith)
+pub nowhere-none : (o : Option ℕ) → None ≡ place_at o → o ≡ None
+nowhere-none None e = refl
+nowhere-none (Some j) e = let z : ◌≡◌ {A = ℕ} 0 1 = cc in absurd (omega arith)
 
 module _ {A : Type 0} {t : Table A} {ws : List ℕ} {n : ℕ} (h : Held t ws n) where
   pub held-length : length (live t ws n) ≡ n
@@ -215,47 +210,47 @@ module _ {A : Type 0} {t : Table A} {ws : List ℕ} {n : ℕ} (h : Held t ws n) 
   held_at i d l = get_or-take n (rows_of t ws) i d l
 
   -- what is found is live, has the key, and is what is looked up
-  pub hit-lt : (k i : ℕ) → find_by t.key k (live t ws n) ≡ some i → i < n
+  pub hit-lt : (k i : ℕ) → find_by t.key k (live t ws n) ≡ Some i → i < n
   hit-lt k i e =
       let f = found t.key 0 k (live t ws n) i t.blank h.rising e in
       omega (arith, f.0, f.1.there, held-length)
 
-  pub hit-key : (k i : ℕ) → find_by t.key k (live t ws n) ≡ some i → t.key (get_or (rows_of t ws) i t.blank) ≡ k
+  pub hit-key : (k i : ℕ) → find_by t.key k (live t ws n) ≡ Some i → t.key (get_or (rows_of t ws) i t.blank) ≡ k
   hit-key k i e =
       let f = found t.key 0 k (live t ws n) i t.blank h.rising e in
       rw (← get_or-take n (rows_of t ws) i t.blank (hit-lt k i e), f.0) f.1.has
 
-  pub hit-lookup : (k i : ℕ) → find_by t.key k (live t ws n) ≡ some i → lookup t.key k (live t ws n) ≡ some (get_or (rows_of t ws) i t.blank)
+  pub hit-lookup : (k i : ℕ) → find_by t.key k (live t ws n) ≡ Some i → lookup t.key k (live t ws n) ≡ Some (get_or (rows_of t ws) i t.blank)
   hit-lookup k i e =
-      lookup-find t.key k (live t ws n) t.blank ∙ ap (Option.map (λ (j : ℕ). get_or (live t ws n) j t.blank)) e
-      ∙ ap some (held_at i t.blank (hit-lt k i e))
+      lookup-find t.key k (live t ws n) t.blank ∙ ap (option_map (λ (j : ℕ). get_or (live t ws n) j t.blank)) e
+      ∙ ap Some (held_at i t.blank (hit-lt k i e))
 
-  pub miss-lookup : (k : ℕ) → find_by t.key k (live t ws n) ≡ none → lookup t.key k (live t ws n) ≡ none
-  miss-lookup k e = lookup-find t.key k (live t ws n) t.blank ∙ ap (Option.map (λ (j : ℕ). get_or (live t ws n) j t.blank)) e
+  pub miss-lookup : (k : ℕ) → find_by t.key k (live t ws n) ≡ None → lookup t.key k (live t ws n) ≡ None
+  miss-lookup k e = lookup-find t.key k (live t ws n) t.blank ∙ ap (option_map (λ (j : ℕ). get_or (live t ws n) j t.blank)) e
 
   -- an insert is refused exactly when no record has the key and every place is taken
-  pub full-when : (u : A) → find_by t.key (t.key u) (live t ws n) ≡ none → n ≡ t.room → inserted_of t.room (length (insert_by t.key u (live t ws n))) ≡ Full
+  pub full-when : (u : A) → find_by t.key (t.key u) (live t ws n) ≡ None → n ≡ t.room → inserted_of t.room (length (insert_by t.key u (live t ws n))) ≡ None
   full-when u e m =
       let l : length (insert_by t.key u (live t ws n)) ≡ suc n = length-insert-miss t.key 0 u (live t ws n) h.rising e ∙ ap suc held-length in
       rw (l, lt-leb (suc n) t.room (omega arith))
 
-  pub full-means : (u : A) → inserted_of t.room (length (insert_by t.key u (live t ws n))) ≡ Full
-      → (find_by t.key (t.key u) (live t ws n) ≡ none) × (n ≡ t.room)
+  pub full-means : (u : A) → inserted_of t.room (length (insert_by t.key u (live t ws n))) ≡ None
+      → (find_by t.key (t.key u) (live t ws n) ≡ None) × (n ≡ t.room)
   full-means u r = go (find_by t.key (t.key u) (live t ws n)) refl
     where
-      shut : (m : ℕ) → inserted_of t.room m ≡ Full → t.room < m
+      shut : (m : ℕ) → inserted_of t.room m ≡ None → t.room < m
       shut m e = cases (leb m t.room) refl e
         where
-          cases : (b : Bool) → leb m t.room ≡ b → pick b (Holding m) Full ≡ Full → t.room < m
+          cases : (b : Bool) → leb m t.room ≡ b → pick b (Some m) None ≡ None → t.room < m
           cases true f e = let z : ◌≡◌ {A = ℕ} 0 1 = cc in absurd (omega arith)
           cases false f e = leb-false m t.room f
 
-      go : (o : Option ℕ) → find_by t.key (t.key u) (live t ws n) ≡ o → (find_by t.key (t.key u) (live t ws n) ≡ none) × (n ≡ t.room)
-      go none f =
+      go : (o : Option ℕ) → find_by t.key (t.key u) (live t ws n) ≡ o → (find_by t.key (t.key u) (live t ws n) ≡ None) × (n ≡ t.room)
+      go None f =
           let l : length (insert_by t.key u (live t ws n)) ≡ suc n = length-insert-miss t.key 0 u (live t ws n) h.rising f ∙ ap suc held-length in
           let s = shut (length (insert_by t.key u (live t ws n))) r in
           (f, omega (arith, h.within))
-      go (some i) f =
+      go (Some i) f =
           let l : length (insert_by t.key u (live t ws n)) ≡ n = length-insert-hit t.key 0 u (live t ws n) i h.rising f ∙ held-length in
           let s = shut (length (insert_by t.key u (live t ws n))) r in
           absurd (omega (arith, h.within))
@@ -278,12 +273,12 @@ settled-append p (Settled e v h ∷ xs) ys =
     let ih : count p (settled_of (xs ++ ys)) ≡ count p (settled_of xs) + count p (settled_of ys) = settled-append p xs ys in omega arith
 
 abbrev is_some : {A : Type 0} → Option A → Bool
-is_some none = false
-is_some (some x) = true
+is_some None = false
+is_some (Some x) = true
 
-stays-or : {A : Type 0} (o : Option A) → pick (is_some o) o none ≡ o
-stays-or none = refl
-stays-or (some y) = refl
+stays-or : {A : Type 0} (o : Option A) → pick (is_some o) o None ≡ o
+stays-or None = refl
+stays-or (Some y) = refl
 
 module _ {A : Type 0} (entry : A → Entry) where
   module _ (p : Entry → Bool) where
@@ -357,18 +352,18 @@ module _ {A : Type 0} (entry : A → Entry) where
 
   -- what a turn leaves under the id
   abbrev pub stays : Turn A → Option A
-  stays (Keeps y) = some y
-  stays (HandsOff y) = some y
-  stays (Settles again v h) = none
+  stays (Keeps y) = Some y
+  stays (HandsOff y) = Some y
+  stays (Settles again v h) = None
 
   abbrev pub after : (A → Turn A) → Option A → Option A
-  after f none = none
-  after f (some x) = stays (f x)
+  after f None = None
+  after f (Some x) = stays (f x)
 
   turn-lookup : (k : ℕ) (x : A) (xs : List A) (t : Turn A) → Same entry x t
       → lookup (id_of entry) k (kept t ++ xs) ≡ pick (eqb (id_of entry x) k) (pick (is_some (stays t)) (stays t) (lookup (id_of entry) k xs)) (lookup (id_of entry) k xs)
-  turn-lookup k x xs (Keeps y) s = ap (λ (e : Entry). pick (eqb e.id k) (some y) (lookup (id_of entry) k xs)) s
-  turn-lookup k x xs (HandsOff y) s = ap (λ (e : Entry). pick (eqb e.id k) (some y) (lookup (id_of entry) k xs)) s
+  turn-lookup k x xs (Keeps y) s = ap (λ (e : Entry). pick (eqb e.id k) (Some y) (lookup (id_of entry) k xs)) s
+  turn-lookup k x xs (HandsOff y) s = ap (λ (e : Entry). pick (eqb e.id k) (Some y) (lookup (id_of entry) k xs)) s
   turn-lookup k x xs (Settles again v h) s = same (eqb (id_of entry x) k)
     where
       same : (b : Bool) → lookup (id_of entry) k xs ≡ pick b (lookup (id_of entry) k xs) (lookup (id_of entry) k xs)
@@ -382,7 +377,7 @@ module _ {A : Type 0} (entry : A → Entry) where
   lookup-each f s lo k (x ∷ xs) r =
       ⊎_elim
       (λ e.
-      let past : lookup (id_of entry) k (each f xs) ≡ none =
+      let past : lookup (id_of entry) k (each f xs) ≡ None =
       lookup-past (id_of entry) (suc (id_of entry x)) k (each f xs) (each-rising f s (suc (id_of entry x)) xs r.1) (omega arith) in
       turn-lookup k x (each f xs) (f x) (s x) ∙ rw (eq-eqb (id_of entry x) k e, past) (stays-or (stays (f x))))
       (λ n. turn-lookup k x (each f xs) (f x) (s x) ∙ rw (ne_eqb (id_of entry x) k n) (lookup-each f s (suc (id_of entry x)) k xs r.1))
@@ -399,7 +394,7 @@ module _ {A : Type 0} (entry : A → Entry) where
       rw (eq-eqb (id_of entry x) i e) (turn-lookup k x xs (f x) (s x) ∙ rw (ne_eqb (id_of entry x) k m)))
       (λ m.
       rw (ne_eqb (id_of entry x) i m)
-      (ap (pick (eqb (id_of entry x) k) (some x)) (lookup-first-other i k f s n xs)))
+      (ap (pick (eqb (id_of entry x) k) (Some x)) (lookup-first-other i k f s n xs)))
       (eq-or-ne (id_of entry x) i)
 
   pub lookup-first-same : (i : ℕ) (f : A → Turn A) → ((x : A) → Same entry x (f x)) → (lo : ℕ) (xs : List A) → Rising (id_of entry) lo xs
@@ -408,34 +403,34 @@ module _ {A : Type 0} (entry : A → Entry) where
   lookup-first-same i f s lo (x ∷ xs) r =
       ⊎_elim
       (λ e.
-      let past : lookup (id_of entry) i xs ≡ none = lookup-past (id_of entry) (suc (id_of entry x)) i xs r.1 (omega arith) in
+      let past : lookup (id_of entry) i xs ≡ None = lookup-past (id_of entry) (suc (id_of entry x)) i xs r.1 (omega arith) in
       rw (eq-eqb (id_of entry x) i e) (turn-lookup i x xs (f x) (s x) ∙ rw (eq-eqb (id_of entry x) i e, past) (stays-or (stays (f x)))))
       (λ m. rw (ne_eqb (id_of entry x) i m, ne_eqb (id_of entry x) i m) (lookup-first-same i f s (suc (id_of entry x)) xs r.1))
       (eq-or-ne (id_of entry x) i)
 
   -- the first with any test: its own id has what its turn leaves, every other id what it had
-  pub lookup-turned : (q : A → Bool) (f : A → Turn A) → ((x : A) → Same entry x (f x)) → (lo k : ℕ) (xs : List A) (x : A) → Rising (id_of entry) lo xs → first_of q xs ≡ some x
+  pub lookup-turned : (q : A → Bool) (f : A → Turn A) → ((x : A) → Same entry x (f x)) → (lo k : ℕ) (xs : List A) (x : A) → Rising (id_of entry) lo xs → first_of q xs ≡ Some x
       → lookup (id_of entry) k (at_first q f xs) ≡ pick (eqb (id_of entry x) k) (stays (f x)) (lookup (id_of entry) k xs)
   lookup-turned q f s lo k [] x r e = let z : ◌≡◌ {A = ℕ} 0 1 = cc in absurd (omega arith)
   lookup-turned q f s lo k (y ∷ ys) x r e = go (q y) e (lookup-turned q f s (suc (id_of entry y)) k ys x r.1)
     where
-      found-past : (zs : List A) (lo' : ℕ) → Rising (id_of entry) lo' zs → first_of q zs ≡ some x → lo' ≤ id_of entry x
+      found-past : (zs : List A) (lo' : ℕ) → Rising (id_of entry) lo' zs → first_of q zs ≡ Some x → lo' ≤ id_of entry x
       found-past [] lo' t f = let z : ◌≡◌ {A = ℕ} 0 1 = cc in absurd (omega arith)
       found-past (z ∷ zs) lo' t f = cases (q z) f (found-past zs (suc (id_of entry z)) t.1)
         where
-          cases : (b : Bool) → pick b (some z) (first_of q zs) ≡ some x → (first_of q zs ≡ some x → suc (id_of entry z) ≤ id_of entry x) → lo' ≤ id_of entry x
+          cases : (b : Bool) → pick b (Some z) (first_of q zs) ≡ Some x → (first_of q zs ≡ Some x → suc (id_of entry z) ≤ id_of entry x) → lo' ≤ id_of entry x
           cases true g ih = let i : z ≡ x = cc in rw (← i) t.0
           cases false g ih = let l = ih g in omega (arith, t.0)
 
-      go : (b : Bool) → pick b (some y) (first_of q ys) ≡ some x
-          → (first_of q ys ≡ some x → lookup (id_of entry) k (at_first q f ys) ≡ pick (eqb (id_of entry x) k) (stays (f x)) (lookup (id_of entry) k ys))
-          → lookup (id_of entry) k (pick b (kept (f y) ++ ys) (y ∷ at_first q f ys)) ≡ pick (eqb (id_of entry x) k) (stays (f x)) (pick (eqb (id_of entry y) k) (some y) (lookup (id_of entry) k ys))
+      go : (b : Bool) → pick b (Some y) (first_of q ys) ≡ Some x
+          → (first_of q ys ≡ Some x → lookup (id_of entry) k (at_first q f ys) ≡ pick (eqb (id_of entry x) k) (stays (f x)) (lookup (id_of entry) k ys))
+          → lookup (id_of entry) k (pick b (kept (f y) ++ ys) (y ∷ at_first q f ys)) ≡ pick (eqb (id_of entry x) k) (stays (f x)) (pick (eqb (id_of entry y) k) (Some y) (lookup (id_of entry) k ys))
       go true g ih =
           let i : y ≡ x = cc in
           rw (← i)
           (⊎_elim
           (λ e.
-          let past : lookup (id_of entry) k ys ≡ none = lookup-past (id_of entry) (suc (id_of entry y)) k ys r.1 (omega arith) in
+          let past : lookup (id_of entry) k ys ≡ None = lookup-past (id_of entry) (suc (id_of entry y)) k ys r.1 (omega arith) in
           turn-lookup k y ys (f y) (s y) ∙ rw (eq-eqb (id_of entry y) k e, past) (stays-or (stays (f y))))
           (λ n. turn-lookup k y ys (f y) (s y) ∙ rw (ne_eqb (id_of entry y) k n))
           (eq-or-ne (id_of entry y) k))
@@ -450,16 +445,16 @@ module _ {A : Type 0} (entry : A → Entry) where
 
 module _ {A : Type 0} (key : A → ℕ) (q : A → Bool) where
   -- what is found has the test
-  pub first-has : (xs : List A) (x : A) → first_of q xs ≡ some x → q x ≡ true
+  pub first-has : (xs : List A) (x : A) → first_of q xs ≡ Some x → q x ≡ true
   first-has [] x e = let z : ◌≡◌ {A = ℕ} 0 1 = cc in absurd (omega arith)
   first-has (y ∷ ys) x e = go (q y) refl e (first-has ys x)
     where
-      go : (b : Bool) → q y ≡ b → pick b (some y) (first_of q ys) ≡ some x → (first_of q ys ≡ some x → q x ≡ true) → q x ≡ true
+      go : (b : Bool) → q y ≡ b → pick b (Some y) (first_of q ys) ≡ Some x → (first_of q ys ≡ Some x → q x ≡ true) → q x ≡ true
       go true h f ih = let e : y ≡ x = cc in rw e at h
       go false h f ih = ih f
 
   -- and no record with the test has a lower key
-  pub first-oldest : (lo : ℕ) (xs : List A) (x : A) → Rising key lo xs → first_of q xs ≡ some x → All (λ (y : A). q y ≡ true → key x ≤ key y) xs
+  pub first-oldest : (lo : ℕ) (xs : List A) (x : A) → Rising key lo xs → first_of q xs ≡ Some x → All (λ (y : A). q y ≡ true → key x ≤ key y) xs
   first-oldest lo [] x r e = tt
   first-oldest lo (y ∷ ys) x r e = go (q y) refl e (first-oldest (suc (key y)) ys x r.1)
     where
@@ -467,7 +462,7 @@ module _ {A : Type 0} (key : A → ℕ) (q : A → Bool) where
       later b [] t l = tt
       later b (z ∷ zs) t l = ((λ h. omega (arith, t.0)), later (suc (key z)) zs t.1 (omega (arith, t.0)))
 
-      go : (b : Bool) → q y ≡ b → pick b (some y) (first_of q ys) ≡ some x → (first_of q ys ≡ some x → All (λ (z : A). q z ≡ true → key x ≤ key z) ys)
+      go : (b : Bool) → q y ≡ b → pick b (Some y) (first_of q ys) ≡ Some x → (first_of q ys ≡ Some x → All (λ (z : A). q z ≡ true → key x ≤ key z) ys)
           → (q y ≡ true → key x ≤ key y) × All (λ (z : A). q z ≡ true → key x ≤ key z) ys
       go true h f ih =
           let i : y ≡ x = cc in
@@ -498,11 +493,11 @@ module _ {A : Type 0} where
   pub record First (q : A → Bool) (f : A → Turn A) (d : A) (xs : List A) (i : ℕ) : Type 0 where
     pub there : i < length xs
     pub has : q (get_or xs i d) ≡ true
-    pub is : first_of q xs ≡ some (get_or xs i d)
+    pub is : first_of q xs ≡ Some (get_or xs i d)
     pub move : at_first q f xs ≡ placed (f (get_or xs i d)) i xs
     pub any : any_of q xs ≡ true
 
-  pub first_found : (q : A → Bool) (f : A → Turn A) (d : A) (xs : List A) (i : ℕ) → first_at q xs ≡ some i → First q f d xs i
+  pub first_found : (q : A → Bool) (f : A → Turn A) (d : A) (xs : List A) (i : ℕ) → first_at q xs ≡ Some i → First q f d xs i
   first_found q f d [] i e = let z : ◌≡◌ {A = ℕ} 0 1 = cc in absurd (omega arith)
   first_found q f d (x ∷ xs) i e = go (q x) refl e (first_found q f d xs)
     where
@@ -516,10 +511,10 @@ module _ {A : Type 0} where
       further (HandsOff y) j = refl
       further (Settles again v h) j = refl
 
-      step : (b : Bool) → q x ≡ b → b ≡ false → (o : Option ℕ) → first_at q xs ≡ o → Option.map suc o ≡ some i
-          → ((j : ℕ) → first_at q xs ≡ some j → First q f d xs j) → First q f d (x ∷ xs) i
-      step b eq nb none fo e r = let z : ◌≡◌ {A = ℕ} 0 1 = cc in absurd (omega arith)
-      step b eq nb (some j) fo e r =
+      step : (b : Bool) → q x ≡ b → b ≡ false → (o : Option ℕ) → first_at q xs ≡ o → option_map suc o ≡ Some i
+          → ((j : ℕ) → first_at q xs ≡ Some j → First q f d xs j) → First q f d (x ∷ xs) i
+      step b eq nb None fo e r = let z : ◌≡◌ {A = ℕ} 0 1 = cc in absurd (omega arith)
+      step b eq nb (Some j) fo e r =
           let p = r j fo in
           let k : suc j ≡ i = cc in
           let no : q x ≡ false = eq ∙ nb in
@@ -532,53 +527,53 @@ module _ {A : Type 0} where
             any = rw no p.any;
           })
 
-      go : (b : Bool) → q x ≡ b → pick b (some 0) (Option.map suc (first_at q xs)) ≡ some i → ((j : ℕ) → first_at q xs ≡ some j → First q f d xs j) → First q f d (x ∷ xs) i
+      go : (b : Bool) → q x ≡ b → pick b (Some 0) (option_map suc (first_at q xs)) ≡ Some i → ((j : ℕ) → first_at q xs ≡ Some j → First q f d xs j) → First q f d (x ∷ xs) i
       go true eq e r =
           let k : 0 ≡ i = cc in
           rw (← k) (record { there = omega arith; has = eq; is = rw eq; move = rw eq (here (f x)); any = rw eq })
       go false eq e r = step false eq refl (first_at q xs) refl e r
 
   pub record Missed (q : A → Bool) (f : A → Turn A) (xs : List A) : Type 0 where
-    pub is : first_of q xs ≡ none
+    pub is : first_of q xs ≡ None
     pub move : at_first q f xs ≡ xs
     pub any : any_of q xs ≡ false
 
-  pub first-missed : (q : A → Bool) (f : A → Turn A) (xs : List A) → first_at q xs ≡ none → Missed q f xs
+  pub first-missed : (q : A → Bool) (f : A → Turn A) (xs : List A) → first_at q xs ≡ None → Missed q f xs
   first-missed q f [] e = record { is = refl; move = refl; any = refl }
   first-missed q f (x ∷ xs) e = go (q x) refl e (first-missed q f xs)
     where
-      bare : (o : Option ℕ) → Option.map suc o ≡ none → o ≡ none
-      bare none e = refl
-      bare (some j) e = let z : ◌≡◌ {A = ℕ} 0 1 = cc in absurd (omega arith)
+      bare : (o : Option ℕ) → option_map suc o ≡ None → o ≡ None
+      bare None e = refl
+      bare (Some j) e = let z : ◌≡◌ {A = ℕ} 0 1 = cc in absurd (omega arith)
 
-      go : (b : Bool) → q x ≡ b → pick b (some 0) (Option.map suc (first_at q xs)) ≡ none → (first_at q xs ≡ none → Missed q f xs) → Missed q f (x ∷ xs)
+      go : (b : Bool) → q x ≡ b → pick b (Some 0) (option_map suc (first_at q xs)) ≡ None → (first_at q xs ≡ None → Missed q f xs) → Missed q f (x ∷ xs)
       go true eq e r = let z : ◌≡◌ {A = ℕ} 0 1 = cc in absurd (omega arith)
       go false eq e r =
           let p = r (bare (first_at q xs) e) in
           record { is = rw eq p.is; move = rw eq (ap (λ (l : List A). x ∷ l) p.move); any = rw eq p.any }
 
   -- the turn at the place is all that is told
-  pub told-found : (entry : A → Entry) (q : A → Bool) (f : A → Turn A) (xs : List A) (x : A) → first_of q xs ≡ some x → at_first_told entry q f xs ≡ told (entry x) (f x)
+  pub told-found : (entry : A → Entry) (q : A → Bool) (f : A → Turn A) (xs : List A) (x : A) → first_of q xs ≡ Some x → at_first_told entry q f xs ≡ told (entry x) (f x)
   told-found entry q f [] x e = let z : ◌≡◌ {A = ℕ} 0 1 = cc in absurd (omega arith)
   told-found entry q f (y ∷ ys) x e = go (q y) e (told-found entry q f ys x)
     where
-      go : (b : Bool) → pick b (some y) (first_of q ys) ≡ some x → (first_of q ys ≡ some x → at_first_told entry q f ys ≡ told (entry x) (f x))
+      go : (b : Bool) → pick b (Some y) (first_of q ys) ≡ Some x → (first_of q ys ≡ Some x → at_first_told entry q f ys ≡ told (entry x) (f x))
           → pick b (told (entry y) (f y)) (at_first_told entry q f ys) ≡ told (entry x) (f x)
       go true e r = let z : y ≡ x = cc in rw z
       go false e r = r e
 
-  pub told-missed : (entry : A → Entry) (q : A → Bool) (f : A → Turn A) (xs : List A) → first_of q xs ≡ none → at_first_told entry q f xs ≡ []
+  pub told-missed : (entry : A → Entry) (q : A → Bool) (f : A → Turn A) (xs : List A) → first_of q xs ≡ None → at_first_told entry q f xs ≡ []
   told-missed entry q f [] e = refl
   told-missed entry q f (y ∷ ys) e = go (q y) e (told-missed entry q f ys)
     where
-      go : (b : Bool) → pick b (some y) (first_of q ys) ≡ none → (first_of q ys ≡ none → at_first_told entry q f ys ≡ []) → pick b (told (entry y) (f y)) (at_first_told entry q f ys) ≡ []
+      go : (b : Bool) → pick b (Some y) (first_of q ys) ≡ None → (first_of q ys ≡ None → at_first_told entry q f ys ≡ []) → pick b (told (entry y) (f y)) (at_first_told entry q f ys) ≡ []
       go true e r = let z : ◌≡◌ {A = ℕ} 0 1 = cc in absurd (omega arith)
       go false e r = r e
 
   -- finding by key is finding the first with that key
   pub find_first : (key : A → ℕ) (k : ℕ) (xs : List A) → find_by key k xs ≡ first_at (λ (x : A). eqb (key x) k) xs
   find_first key k [] = refl
-  find_first key k (x ∷ xs) = ap (λ (o : Option ℕ). pick (eqb (key x) k) (some 0) (Option.map suc o)) (find_first key k xs)
+  find_first key k (x ∷ xs) = ap (λ (o : Option ℕ). pick (eqb (key x) k) (Some 0) (option_map suc o)) (find_first key k xs)
 
   -- ---- how code makes the move of each: place by place, storing or removing
 
@@ -640,43 +635,43 @@ module _ {A : Type 0} where
   pub scan-first : (q : A → Bool) (xs : List A) → place_from q 0 xs ≡ place_at (first_at q xs)
   scan-first q xs = from 0 xs ∙ ap place_at (bare (first_at q xs))
     where
-      bare : (o : Option ℕ) → Option.map (λ (j : ℕ). 0 + j) o ≡ o
-      bare none = refl
-      bare (some j) = ap some (zero-add j)
+      bare : (o : Option ℕ) → option_map (λ (j : ℕ). 0 + j) o ≡ o
+      bare None = refl
+      bare (Some j) = ap Some (zero-add j)
 
-      past : (i : ℕ) (o : Option ℕ) → Option.map (λ (j : ℕ). suc i + j) o ≡ Option.map (λ (j : ℕ). i + j) (Option.map suc o)
-      past i none = refl
-      past i (some j) = ap some (suc-add i j ∙ sym (add-suc i j))
+      past : (i : ℕ) (o : Option ℕ) → option_map (λ (j : ℕ). suc i + j) o ≡ option_map (λ (j : ℕ). i + j) (option_map suc o)
+      past i None = refl
+      past i (Some j) = ap Some (suc-add i j ∙ sym (add-suc i j))
 
-      from : (i : ℕ) (xs : List A) → place_from q i xs ≡ place_at (Option.map (λ (j : ℕ). i + j) (first_at q xs))
+      from : (i : ℕ) (xs : List A) → place_from q i xs ≡ place_at (option_map (λ (j : ℕ). i + j) (first_at q xs))
       from i [] = refl
       from i (x ∷ xs) = go (q x) (from (suc i) xs)
         where
-          go : (b : Bool) → place_from q (suc i) xs ≡ place_at (Option.map (λ (j : ℕ). suc i + j) (first_at q xs))
-              → pick b (Here i) (place_from q (suc i) xs) ≡ place_at (Option.map (λ (j : ℕ). i + j) (pick b (some 0) (Option.map suc (first_at q xs))))
-          go true h = ap Here (sym (add-zero i))
+          go : (b : Bool) → place_from q (suc i) xs ≡ place_at (option_map (λ (j : ℕ). suc i + j) (first_at q xs))
+              → pick b (Some i) (place_from q (suc i) xs) ≡ place_at (option_map (λ (j : ℕ). i + j) (pick b (Some 0) (option_map suc (first_at q xs))))
+          go true h = ap Some (sym (add-zero i))
           go false h = h ∙ ap place_at (past i (first_at q xs))
 
 module _ {A : Type 0} {t : Table A} {ws : List ℕ} {n : ℕ} (h : Held t ws n) where
   room : n ≤ length (rows_of t ws)
   room = omega (arith, length-rows_of t ws, h.within)
 
-  -- the scan has come to place i: the record there has the test or not, or there is none
-  module _ (q : A → Bool) (i : ℕ) {p : Place} (inv : place_from q i (drop i (live t ws n)) ≡ p) where
+  -- the scan has come to place i: the record there has the test or not, or there is None
+  module _ (q : A → Bool) (i : ℕ) {p : Option ℕ} (inv : place_from q i (drop i (live t ws n)) ≡ p) where
     pub scan-on : i < n → q (get_or (rows_of t ws) i t.blank) ≡ false → place_from q (i + 1) (drop (i + 1) (live t ws n)) ≡ p
     scan-on l e =
         let c : place_from q i (get_or (rows_of t ws) i t.blank ∷ drop (i + 1) (live t ws n)) ≡ p =
         ap (place_from q i) (sym (live-cons (rows_of t ws) n i t.blank l room)) ∙ inv in
         ap (λ (j : ℕ). place_from q j (drop (i + 1) (live t ws n))) (add-one i)
-        ∙ sym (ap (λ (b : Bool). pick b (Here i) (place_from q (suc i) (drop (i + 1) (live t ws n)))) e) ∙ c
+        ∙ sym (ap (λ (b : Bool). pick b (Some i) (place_from q (suc i) (drop (i + 1) (live t ws n)))) e) ∙ c
 
-    pub scan-here : i < n → q (get_or (rows_of t ws) i t.blank) ≡ true → Here i ≡ p
+    pub scan-here : i < n → q (get_or (rows_of t ws) i t.blank) ≡ true → Some i ≡ p
     scan-here l e =
         let c : place_from q i (get_or (rows_of t ws) i t.blank ∷ drop (i + 1) (live t ws n)) ≡ p =
         ap (place_from q i) (sym (live-cons (rows_of t ws) n i t.blank l room)) ∙ inv in
-        sym (ap (λ (b : Bool). pick b (Here i) (place_from q (suc i) (drop (i + 1) (live t ws n)))) e) ∙ c
+        sym (ap (λ (b : Bool). pick b (Some i) (place_from q (suc i) (drop (i + 1) (live t ws n)))) e) ∙ c
 
-    pub scan-end : n ≤ i → Nowhere ≡ p
+    pub scan-end : n ≤ i → None ≡ p
     scan-end l = ap (place_from q i) (sym (live-done (rows_of t ws) n i l room)) ∙ inv
 
   -- the fold has come down to place i
@@ -713,15 +708,15 @@ module _ {A : Type 0} {t : Table A} where
   holds-one h h' = (h.is ∙ sym h'.is, holds-count h ∙ sym (holds-count h'))
 
   -- an insert has one outcome
-  pub entered-one : {ws ws' ws'' : List ℕ} {n : ℕ} {u : A} {r r' : Inserted} → Entered t ws n u ws' r → Entered t ws n u ws'' r' → (ws' ≡ ws'') × (r ≡ r')
+  pub entered-one : {ws ws' ws'' : List ℕ} {n : ℕ} {u : A} {r r' : Option ℕ} → Entered t ws n u ws' r → Entered t ws n u ws'' r' → (ws' ≡ ws'') × (r ≡ r')
   entered-one {ws} {ws'} {ws''} {n} {u} {r} {r'} e e' =
       let same : r ≡ r' = e.answer ∙ sym e'.answer in
       (words r e.table (subst⁻¹ (Then t ws n u ws'') same e'.table), same)
     where
-      words : (r : Inserted) → Then t ws n u ws' r → Then t ws n u ws'' r → ws' ≡ ws''
-      words Full a b = a ∙ sym b
-      words (Holding m) a b = (holds-one a b).0
+      words : (r : Option ℕ) → Then t ws n u ws' r → Then t ws n u ws'' r → ws' ≡ ws''
+      words None a b = a ∙ sym b
+      words (Some m) a b = (holds-one a b).0
 
   -- where a place is free, an insert is not refused
-  pub never-full : {ws ws' : List ℕ} {n : ℕ} {u : A} {r : Inserted} → Held t ws n → n < t.room → Entered t ws n u ws' r → r ≡ Full → ⊥
+  pub never-full : {ws ws' : List ℕ} {n : ℕ} {u : A} {r : Option ℕ} → Held t ws n → n < t.room → Entered t ws n u ws' r → r ≡ None → ⊥
   never-full {u = u} h l e f = let m = full-means h u (sym e.answer ∙ f) in omega (arith, m.1)

@@ -1,11 +1,11 @@
 -- Rows of words: what is read out of them, and where a search by the first word of each has come to. Assumes nothing.
+use Rattle.std.specs.Prelude.{None, Some}
 use Prim.Native.Nat.{ℕ, zero, suc, ◌+◌, ◌-◌, ◌*◌, ◌≤◌, ◌<◌}
 use native.Mathlib.Nat.{zero-mul, suc-mul, add-mul, add_comm, add-zero, mul-le-mul_right}
 use native.Mathlib.Numerals.{add-one}
 use native.Mathlib.Omega.{arith}
 use mathlib.Core.Path.{◌≡◌, refl, sym, ap, ◌∙◌}
 use mathlib.Core.List.{List, []}
-use mathlib.Core.Option.{none, some}
 use lib.ListN.{length, take, drop, get_or}
 use lib.Seq.{drop-drop, get_or-take, get_or-drop}
 use Rattle.rows.specs.Lists.{place_of, find_by}
@@ -65,18 +65,18 @@ module _ {width n : ℕ} {ws : List ℕ} (s : Searched width n ws) where
 
   -- ---- what a look at the place of the key, i, says of what is found
 
-  pub search-end : (key i : ℕ) → i ≡ place_of first_word key rows → n ≤ i → find_by first_word key rows ≡ none
+  pub search-end : (key i : ℕ) → i ≡ place_of first_word key rows → n ≤ i → find_by first_word key rows ≡ None
   search-end key i p h = find-miss first_word 0 key rows [] s.rising (λ l e. omega (arith, length-rows width itself n ws))
 
-  pub search-hit : (key i : ℕ) → i ≡ place_of first_word key rows → i < n → get_or ws (i * width) 0 ≡ key → find_by first_word key rows ≡ some i
+  pub search-hit : (key i : ℕ) → i ≡ place_of first_word key rows → i < n → get_or ws (i * width) 0 ≡ key → find_by first_word key rows ≡ Some i
   search-hit key i p h e =
-      find-hit first_word key rows [] (omega (arith, length-rows width itself n ws)) (rw (← p) (first-word i h ∙ e)) ∙ ap some (sym p)
+      find-hit first_word key rows [] (omega (arith, length-rows width itself n ws)) (rw (← p) (first-word i h ∙ e)) ∙ ap Some (sym p)
 
-  pub search-miss : (key i : ℕ) → i ≡ place_of first_word key rows → i < n → (get_or ws (i * width) 0 ≡ key → ⊥) → find_by first_word key rows ≡ none
+  pub search-miss : (key i : ℕ) → i ≡ place_of first_word key rows → i < n → (get_or ws (i * width) 0 ≡ key → ⊥) → find_by first_word key rows ≡ None
   search-miss key i p h e = find-miss first_word 0 key rows [] s.rising (λ l q. e (sym (first-word i h) ∙ (rw (← p) at q)))
 
   -- what is found is among the rows
-  pub search-lt : (key i : ℕ) → find_by first_word key rows ≡ some i → i < n
+  pub search-lt : (key i : ℕ) → find_by first_word key rows ≡ Some i → i < n
   search-lt key i e =
       let f = found first_word 0 key rows i [] s.rising e in
       omega (arith, f.0, f.1.there, length-rows width itself n ws)

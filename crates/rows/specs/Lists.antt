@@ -1,14 +1,9 @@
 -- A table as the list of its records in rising key: what finding, inserting and removing mean. Over the type A of the records, the key that they
 -- are kept under, the blank that fills a free place, and the number of places.
-use Rattle.std.specs.Prelude.{ℕ, zero, suc, ◌-◌, ◌≤◌, List, [], ◌∷◌, ◌++◌, length, replicate, ltb, leb, eqb}
-use Rattle.std.proofs.Math.Option.{Option, none, some, map}
+use Rattle.std.specs.Prelude.{ℕ, zero, suc, ◌-◌, ◌≤◌, List, [], ◌∷◌, ◌++◌, length, replicate, ltb, leb, eqb, Option, None, Some, option_map}
 use Rattle.records.specs.Pick.{pick}
 use Rattle.rows.specs.declared.Spot.{Spot}
 use Rattle.rows.specs.declared.Spot.TheVariants.{Taken, Free}
-use Rattle.rows.specs.declared.Place.{Place}
-use Rattle.rows.specs.declared.Place.TheVariants.{Nowhere, Here}
-use Rattle.rows.specs.declared.Inserted.{Inserted}
-use Rattle.rows.specs.declared.Inserted.TheVariants.{Full, Holding}
 
 module _ {A : Type 0} where
   -- the list without what stands at i
@@ -45,13 +40,13 @@ module _ {A : Type 0} (key : A → ℕ) where
 
   -- where the first record with the key k stands
   abbrev pub find_by : ℕ → List A → Option ℕ
-  find_by k [] = none
-  find_by k (y ∷ ys) = pick (eqb (key y) k) (some 0) (map suc (find_by k ys))
+  find_by k [] = None
+  find_by k (y ∷ ys) = pick (eqb (key y) k) (Some 0) (option_map suc (find_by k ys))
 
   -- the first record with the key k
   abbrev pub lookup : ℕ → List A → Option A
-  lookup k [] = none
-  lookup k (y ∷ ys) = pick (eqb (key y) k) (some y) (lookup k ys)
+  lookup k [] = None
+  lookup k (y ∷ ys) = pick (eqb (key y) k) (Some y) (lookup k ys)
 
   -- the list with x under its key: in the place of the record with that key, or else before the first with a larger one
   abbrev pub insert_by : A → List A → List A
@@ -70,14 +65,14 @@ module _ {A : Type 0} (key : A → ℕ) where
 
 -- where a key stands among rows, or where it would
 abbrev pub spot_at : Option ℕ → ℕ → Spot
-spot_at none k = Free k
-spot_at (some i) k = Taken i
+spot_at None k = Free k
+spot_at (Some i) k = Taken i
 
 -- what find answers
-abbrev pub place_at : Option ℕ → Place
-place_at none = Nowhere
-place_at (some i) = Here i
+abbrev pub place_at : Option ℕ → Option ℕ
+place_at None = None
+place_at (Some i) = Some i
 
 -- what insert answers where there would be n records
-abbrev pub inserted_of : ℕ → ℕ → Inserted
-inserted_of room n = pick (leb n room) (Holding n) Full
+abbrev pub inserted_of : ℕ → ℕ → Option ℕ
+inserted_of room n = pick (leb n room) (Some n) None

@@ -1,13 +1,9 @@
 -- The four moves: every change that a call makes to a table of sends. Every record has its turn (each), the first with a test has it (at_first), one
 -- enters under its id (insert_by, in Lists), or all go ([]). A turn says what becomes of one record; the move says what becomes of the table and, with
 -- the id and the handles of the record in it, what is told.
-use Rattle.std.specs.Prelude.{ℕ, suc, ◌+◌, ◌≡◌, Bool, true, false, List, [], ◌∷◌, ◌++◌, set, eqb}
-use Rattle.std.proofs.Math.Option.{Option, none, some, map}
+use Rattle.std.specs.Prelude.{ℕ, suc, ◌+◌, ◌≡◌, Bool, true, false, List, [], ◌∷◌, ◌++◌, set, eqb, Option, None, Some, option_map}
 use Rattle.records.specs.Pick.{pick, bit}
-use Rattle.rows.specs.declared.Place.{Place}
-use Rattle.rows.specs.declared.Place.TheVariants.{Nowhere, Here}
 use Rattle.rows.specs.Lists.{remove_at}
-use Rattle.records.specs.declared.Opt16.{Opt16}
 use Rattle.records.specs.declared.Verdict.{Verdict}
 use Rattle.records.specs.declared.Entry.{Entry}
 use Rattle.records.specs.declared.Action.{Action}
@@ -18,7 +14,7 @@ use Rattle.records.specs.declared.Action.TheVariants.{HandedOff, Settled}
 pub data Turn (A : Type 0) : Type 0 where
   Keeps : A → Turn A
   HandsOff : A → Turn A
-  Settles : Bool → Verdict → Opt16 → Turn A
+  Settles : Bool → Verdict → Option ℕ → Turn A
 
 abbrev pub kept : {A : Type 0} → Turn A → List A
 kept (Keeps y) = y ∷ []
@@ -26,7 +22,7 @@ kept (HandsOff y) = y ∷ []
 kept (Settles again v h) = []
 
 -- what is told of a settled send, its handoff again first or not
-abbrev pub settling : Entry → Bool → Verdict → Opt16 → List Action
+abbrev pub settling : Entry → Bool → Verdict → Option ℕ → List Action
 settling e again v h = pick again (HandedOff e.id e.waiter ∷ Settled e v h ∷ []) (Settled e v h ∷ [])
 
 abbrev pub told : {A : Type 0} → Entry → Turn A → List Action
@@ -47,18 +43,18 @@ module _ {A : Type 0} where
 
   -- that record
   abbrev pub first_of : (A → Bool) → List A → Option A
-  first_of q [] = none
-  first_of q (x ∷ xs) = pick (q x) (some x) (first_of q xs)
+  first_of q [] = None
+  first_of q (x ∷ xs) = pick (q x) (Some x) (first_of q xs)
 
   -- where it stands
   abbrev pub first_at : (A → Bool) → List A → Option ℕ
-  first_at q [] = none
-  first_at q (x ∷ xs) = pick (q x) (some 0) (map suc (first_at q xs))
+  first_at q [] = None
+  first_at q (x ∷ xs) = pick (q x) (Some 0) (option_map suc (first_at q xs))
 
   -- the same as an answer, the first record standing at place i
-  abbrev pub place_from : (A → Bool) → ℕ → List A → Place
-  place_from q i [] = Nowhere
-  place_from q i (x ∷ xs) = pick (q x) (Here i) (place_from q (suc i) xs)
+  abbrev pub place_from : (A → Bool) → ℕ → List A → Option ℕ
+  place_from q i [] = None
+  place_from q i (x ∷ xs) = pick (q x) (Some i) (place_from q (suc i) xs)
 
   -- what becomes of the list where the record at i has that turn
   abbrev pub placed : Turn A → ℕ → List A → List A

@@ -1,13 +1,11 @@
 -- Rows of words: row i is the `width` words from i * width on. How a list of records lies in words, and what moving rows does to them.
-use Rattle.std.specs.Prelude.{ℕ, zero, suc, ◌+◌, ◌-◌, ◌*◌, ◌≤◌, ◌<◌, List, [], ◌∷◌, ◌++◌, length, take, drop, get_or, replicate, ◌≡◌, leb}
+use Rattle.std.specs.Prelude.{ℕ, zero, suc, ◌+◌, ◌-◌, ◌*◌, ◌≤◌, ◌<◌, List, [], ◌∷◌, ◌++◌, length, take, drop, get_or, replicate, ◌≡◌, leb, Option, None, Some}
 use Rattle.std.proofs.lemmas.List.Edits.{sets}
 use Rattle.records.specs.Pick.{pick}
 use Rattle.rows.specs.declared.Spot.{Spot}
 use Rattle.rows.specs.declared.Spot.TheVariants.{Taken, Free}
 use Rattle.rows.specs.declared.Slot.{Slot}
 use Rattle.rows.specs.declared.Slot.TheVariants.{Shut, Over, New}
-use Rattle.rows.specs.declared.Place.{Place}
-use Rattle.rows.specs.declared.Place.TheVariants.{Nowhere, Here}
 use Rattle.rows.specs.Lists.{place_of, find_by, spot_at, Rising}
 
 -- the first n rows of the words, each read by `read`
@@ -31,9 +29,9 @@ first_word v = get_or v 0 0
 abbrev pub spot_in : ℕ → List (List ℕ) → Spot
 spot_in key rows = spot_at (find_by first_word key rows) (place_of first_word key rows)
 
-abbrev pub place_of_spot : Spot → Place
-place_of_spot (Taken i) = Here i
-place_of_spot (Free i) = Nowhere
+abbrev pub place_of_spot : Spot → Option ℕ
+place_of_spot (Taken i) = Some i
+place_of_spot (Free i) = None
 
 -- what a search by key asks: n rows are there, and their keys rise
 pub record Searched (width n : ℕ) (ws : List ℕ) : Type 0 where

@@ -1,8 +1,6 @@
 -- A table in lent words: the list of its live records, the words of such a list, and when words and a count hold one.
-use Rattle.std.specs.Prelude.{ℕ, ◌*◌, ◌≤◌, ◌<◌, ◌≡◌, List, length, take, get_or}
+use Rattle.std.specs.Prelude.{ℕ, ◌*◌, ◌≤◌, ◌<◌, ◌≡◌, List, length, take, get_or, Option, None, Some}
 use Rattle.std.proofs.lemmas.List.Edits.{sets}
-use Rattle.rows.specs.declared.Inserted.{Inserted}
-use Rattle.rows.specs.declared.Inserted.TheVariants.{Full, Holding}
 use Rattle.rows.specs.Lists.{pad_to, insert_by, inserted_of, Rising}
 use Rattle.rows.specs.Rows.{rows_from, flat}
 
@@ -50,12 +48,12 @@ module _ {A : Type 0} (t : Table A) where
     pub same : t.key u ≡ t.key (get_or (rows_of ws) i t.blank)
 
   -- what is held after an insert, by its answer: with no free place every word stays
-  abbrev pub Then : List ℕ → ℕ → A → List ℕ → Inserted → Type 0
-  Then ws n u ws' Full = ws' ≡ ws
-  Then ws n u ws' (Holding m) = Holds ws' m (insert_by t.key u (live ws n))
+  abbrev pub Then : List ℕ → ℕ → A → List ℕ → Option ℕ → Type 0
+  Then ws n u ws' None = ws' ≡ ws
+  Then ws n u ws' (Some m) = Holds ws' m (insert_by t.key u (live ws n))
 
   -- u was put under its key, or refused where that would be one record too many
-  pub record Entered (ws : List ℕ) (n : ℕ) (u : A) (ws' : List ℕ) (r : Inserted) : Type 0 where
+  pub record Entered (ws : List ℕ) (n : ℕ) (u : A) (ws' : List ℕ) (r : Option ℕ) : Type 0 where
     pub answer : r ≡ inserted_of t.room (length (insert_by t.key u (live ws n)))
     pub table : Then ws n u ws' r
 

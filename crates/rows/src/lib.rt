@@ -7,20 +7,6 @@ ghost use Rattle.std.proofs.lemmas.List.Edits.{sets};
 ghost use Rattle.rows.specs.Lists.{place_of};
 ghost use Rattle.rows.specs.Rows.{first_word, rows_from, itself, spot_in, place_of_spot, Searched, moved, closed, opened, Slotted, Unslotted};
 
-// Where a record with the asked key stands.
-#[derive(Clone, Copy)]
-pub enum Place {
-    Nowhere,
-    Here(usize),
-}
-
-// What inserting answers: there is no free place, or how many records the table has then.
-#[derive(Clone, Copy)]
-pub enum Inserted {
-    Full,
-    Holding(usize),
-}
-
 // A place with the asked key, or the place where a row with that key belongs.
 #[derive(Clone, Copy)]
 pub enum Spot {
@@ -127,13 +113,13 @@ pub fn find(w: &[u64], width: usize, n: usize, key: u64) -> Spot
 }
 
 // The same, as an answer.
-pub fn seek(w: &[u64], width: usize, n: usize, key: u64) -> Place
+pub fn seek(w: &[u64], width: usize, n: usize, key: u64) -> Option<usize>
     requires { Searched width n w.now }
     ensures { result ≡ place_of_spot (spot_in key (rows_from width itself n w.now)) }
 {
     match find(w, width, n, key) {
-        Spot::Taken(i) => Place::Here(i),
-        Spot::Free(_) => Place::Nowhere,
+        Spot::Taken(i) => Some(i),
+        Spot::Free(_) => None,
     }
 }
 

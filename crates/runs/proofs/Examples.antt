@@ -1,11 +1,11 @@
 -- Runs by computing: 01's worked example, each way to stop, refused records, and that the claims speak of something. Assumes nothing.
+use Rattle.std.specs.Prelude.{None}
 use Prim.Native.Nat.{ℕ}
 use native.Mathlib.Omega.{arith}
 use mathlib.Core.Path.{◌≡◌, refl, sym, ap, ◌∙◌}
 use mathlib.Core.List.{List, [], ◌∷◌, ◌++◌}
 use lib.ListN.{length, take, drop, get_or, replicate}
 use Rattle.records.specs.Numbers.{default_settings}
-use Rattle.records.specs.declared.Opt16.TheVariants.{None16}
 use Rattle.records.specs.declared.Priority.TheVariants.{UserNormal}
 use Rattle.records.specs.declared.Schedule.TheVariants.{Once}
 use Rattle.records.specs.declared.TxResult.TheVariants.{Sent}
@@ -83,7 +83,7 @@ unfolding went_over body_of event_of broadcast_of dequeue_of report_of results_i
 three-calls = refl
 
 pub one-success : told_over (reads_of reported 64)
-    ≡ record { issued = 0 ∷ []; actions = Settled (record { id = 0; waiter = 9; frame = 7 }) Success None16 ∷ []; left = [] }
+    ≡ record { issued = 0 ∷ []; actions = Settled (record { id = 0; waiter = 9; frame = 7 }) Success None ∷ []; left = [] }
 unfolding went_over body_of event_of broadcast_of dequeue_of report_of results_in
 one-success = refl
 

@@ -1,4 +1,5 @@
 -- The claims of specs/Histories.antt: what each event says and does is what its calls say and do, added up over the records. Assumes nothing.
+use Rattle.std.specs.Prelude.{None, Some}
 use Prim.Native.Nat.{ℕ, ◌≤◌}
 use native.Mathlib.Omega.{arith}
 use mathlib.Core.Path.{◌≡◌, refl, sym, ap, ap₂, subst, ◌∙◌}
@@ -10,7 +11,6 @@ use lib.ListN.{length}
 use Rattle.records.specs.Pick.{pick}
 use Rattle.records.specs.Limits.{no_id}
 use Rattle.records.specs.Records.{unicast_entry, unrouted_entry, broadcast_entry}
-use Rattle.records.specs.declared.Opt64.TheVariants.{None64, Some64}
 use Rattle.records.specs.declared.Verdict.TheVariants.{Success}
 use Rattle.records.specs.declared.Entry.{Entry}
 use Rattle.records.specs.declared.Refusal.{Refusal}
@@ -164,8 +164,8 @@ reply-says (Says (Issued i)) = refl
 reply-says (Says (Replied b)) = refl
 reply-says (Says NothingQueued) = refl
 reply-says (Says (InFlight i f t)) = refl
-reply-says (Wakes None64) = refl
-reply-says (Wakes (Some64 t)) = refl
+reply-says (Wakes None) = refl
+reply-says (Wakes (Some t)) = refl
 reply-says (Lists ds) = quiet DestinationAddress (λ x. refl) ds
 reply-says (Keys ks) = quiet Key (λ x. refl) ks
 reply-says (Matches ss ls) =

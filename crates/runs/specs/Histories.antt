@@ -1,9 +1,8 @@
 -- A RUN IS A HISTORY OF CALLS: the calls that its records make, that its tables are what these calls leave, and that its answers say what they say. So
 -- what the claims prove of every history (claims/specs/Ledger, claims/specs/Causes) holds of the answers of every trace. proofs/Histories proves it.
-use Rattle.std.specs.Prelude.{ℕ, ◌≡◌, eqb}
+use Rattle.std.specs.Prelude.{ℕ, ◌≡◌, eqb, Option}
 use mathlib.Core.List.{List, [], ◌∷◌, ◌++◌, map, Memᴰ}
 use Rattle.records.specs.Records.{unicast_entry, unrouted_entry, broadcast_entry}
-use Rattle.records.specs.declared.Opt16.{Opt16}
 use Rattle.records.specs.declared.Verdict.TheVariants.{Success}
 use Rattle.records.specs.declared.Entry.{Entry}
 use Rattle.records.specs.declared.Action.{Action}
@@ -146,7 +145,7 @@ TraceLedger = (rs : List Read) (i : ℕ) → Memᴰ i (told_over rs).issued → 
 -- this one included.
 abbrev pub TraceSuccess : Type 0
 TraceSuccess =
-    (rs : List Read) (r : Read) (e : Entry) (hop : Opt16) → Memᴰ (Settlement e Success hop) (items_to (world_over fresh_world rs) r)
+    (rs : List Read) (r : Read) (e : Entry) (hop : Option ℕ) → Memᴰ (Settlement e Success hop) (items_to (world_over fresh_world rs) r)
     → Caused (Ever (fresh_of 0) (calls_over fresh_world (rs ++ (r ∷ [])))) e.id
 
 abbrev pub TraceHandedOff : Type 0

@@ -9,42 +9,41 @@ ghost use Rattle.tables.specs.Layouts.{unicast_table};
 ghost use Rattle.sending.specs.Rules.{keyed, awaits, stirs, sought, pends, beside, sent_copy};
 ghost use Rattle.sending.specs.Lists.{best_step, best_of, wake_of};
 
-use records::{AckKey, Address, Opt16, Opt64, Stage};
-use rows::Place;
-use sending::{Best, Sought};
+use records::{AckKey, Address, Stage};
+use sending::Sought;
 
 // Where the oldest send stands that is sought.
-fn first_such(w: &[u64; 320], n: usize, what: Sought) -> Place
+fn first_such(w: &[u64; 320], n: usize, what: Sought) -> Option<usize>
     requires { Held unicast_table w.now n }
     ensures { result ≡ place_at (first_at (sought what) (live unicast_table w.now n)) }
 {
     let mut i: usize = 0;
     while i < n {
         if asking::rules::is_sought(tables::unicast_rows::head(w, i), what) {
-            return Place::Here(i);
+            return Some(i);
         }
         i = i + 1;
     }
-    Place::Nowhere
+    None
 }
 
 // Where the oldest send stands that an ack with that key confirms, in whatever stage.
-pub fn first_keyed(w: &[u64; 320], n: usize, key: AckKey) -> Place
+pub fn first_keyed(w: &[u64; 320], n: usize, key: AckKey) -> Option<usize>
     requires { Held unicast_table w.now n }
     ensures { result ≡ place_at (first_at (keyed key) (live unicast_table w.now n)) }
 {
     let mut at: usize = 0;
     while at < n {
         if turning::rules::is_keyed(tables::unicast_rows::confirm(w, at), key) {
-            return Place::Here(at);
+            return Some(at);
         }
         at = at + 1;
     }
-    Place::Nowhere
+    None
 }
 
 // Whether the send at a place awaits a poll of the device with these addresses.
-fn awaited_at(w: &[u64; 320], at: usize, eui: Opt64, nwk: Opt16, clock: u64) -> bool
+fn awaited_at(w: &[u64; 320], at: usize, eui: Option<u64>, nwk: Option<u16>, clock: u64) -> bool
     requires { at < 32 }
     ensures { result ≡ awaits eui nwk clock (get_or (rows_of unicast_table w.now) at blank_unicast) }
 {
@@ -57,18 +56,18 @@ fn awaited_at(w: &[u64; 320], at: usize, eui: Opt64, nwk: Opt16, clock: u64) -> 
 }
 
 // Where the oldest send stands that awaits a poll of the device.
-pub fn first_awaited(w: &[u64; 320], n: usize, eui: Opt64, nwk: Opt16, clock: u64) -> Place
+pub fn first_awaited(w: &[u64; 320], n: usize, eui: Option<u64>, nwk: Option<u16>, clock: u64) -> Option<usize>
     requires { Held unicast_table w.now n }
     ensures { result ≡ place_at (first_at (awaits eui nwk clock) (live unicast_table w.now n)) }
 {
     let mut k: usize = 0;
     while k < n {
         if awaited_at(w, k, eui, nwk, clock) {
-            return Place::Here(k);
+            return Some(k);
         }
         k = k + 1;
     }
-    Place::Nowhere
+    None
 }
 
 // Whether a tick may change the send at a place.
@@ -108,8 +107,8 @@ fn any_such(w: &[u64; 320], n: usize, what: Sought) -> bool
     ensures { result ≡ any_of (sought what) (live unicast_table w.now n) }
 {
     match first_such(w, n, what) {
-        Place::Here(_) => true,
-        Place::Nowhere => false,
+        Some(_) => true,
+        None => false,
     }
 }
 
@@ -142,7 +141,7 @@ pub fn copy_in_radio(w: &[u64; 320], n: usize, id: u32) -> bool
 }
 
 // The better of the send at a place and the best of those behind it.
-fn best_at(w: &[u64; 320], i: usize, clock: u64, best: Best) -> Best
+fn best_at(w: &[u64; 320], i: usize, clock: u64, best: Option<(u32, Priority)>) -> Option<(u32, Priority)>
     requires { i < 32 }
     ensures { result ≡ best_step clock (get_or (rows_of unicast_table w.now) i blank_unicast) best }
 {
@@ -155,11 +154,11 @@ fn best_at(w: &[u64; 320], i: usize, clock: u64, best: Best) -> Best
 }
 
 // The queued, unexpired send of highest priority, and of these the oldest.
-pub fn best_queued(w: &[u64; 320], n: usize, clock: u64) -> Best
+pub fn best_queued(w: &[u64; 320], n: usize, clock: u64) -> Option<(u32, Priority)>
     requires { Held unicast_table w.now n }
     ensures { result ≡ best_of clock (live unicast_table w.now n) }
 {
-    let mut best = Best::NoneReady;
+    let mut best = None;
     let mut i = n;
     while 0 < i {
         best = best_at(w, i - 1, clock, best);
@@ -169,11 +168,11 @@ pub fn best_queued(w: &[u64; 320], n: usize, clock: u64) -> Best
 }
 
 // When the next deadline or retry is due.
-pub fn next_wake(w: &[u64; 320], n: usize) -> Opt64
+pub fn next_wake(w: &[u64; 320], n: usize) -> Option<u64>
     requires { Held unicast_table w.now n }
     ensures { result ≡ wake_of (live unicast_table w.now n) }
 {
-    let mut wake = Opt64::None64;
+    let mut wake = None;
     let mut left = n;
     while 0 < left {
         wake = asking::rules::wake_with(tables::unicast_rows::head(w, left - 1), wake);

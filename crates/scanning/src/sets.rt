@@ -5,8 +5,8 @@ ghost use Rattle.rows.specs.Tables.{live, Held};
 ghost use Rattle.tables.specs.Layouts.{unicast_table};
 ghost use Rattle.sending.specs.Members.{rises_all, map_fits, mapped_in, member_head, is_past, least_with, next_member, listing_of};
 
-use records::{Address, Opt64, Refusal};
-use sending::{Book, Listing};
+use records::{Address, Refusal};
+use sending::Book;
 use tables::unicast_rows::UnicastHead;
 
 fn rises(eui: &[u64]) -> bool
@@ -40,7 +40,7 @@ pub fn map_fits(eui: &[u64], nwk: &[u16]) -> bool
 }
 
 // The short address that x is mapped to.
-fn mapped(eui: &[u64], nwk: &[u16], x: u64) -> Opt64
+fn mapped(eui: &[u64], nwk: &[u16], x: u64) -> Option<u64>
     ensures { result ≡ mapped_in x eui.now nwk.now }
 {
     let k = eui.len();
@@ -48,50 +48,50 @@ fn mapped(eui: &[u64], nwk: &[u16], x: u64) -> Opt64
     let mut i: usize = 0;
     while i < k {
         if l <= i {
-            return Opt64::None64;
+            return None;
         }
         if eui[i] == x {
-            return Opt64::Some64(nwk[i] as u64);
+            return Some(nwk[i] as u64);
         }
         i = i + 1;
     }
-    Opt64::None64
+    None
 }
 
 // What a send puts into a set.
-fn member_of(h: UnicastHead, book: Book, eui: &[u64], nwk: &[u16]) -> Opt64
+fn member_of(h: UnicastHead, book: Book, eui: &[u64], nwk: &[u16]) -> Option<u64>
     ensures { result ≡ member_head book eui.now nwk.now h }
 {
     let a = asking::rules::pending_for(h);
     match book {
         Book::Shorts => match a {
-            Address::Absent => Opt64::None64,
-            Address::Short(n) => Opt64::Some64(n as u64),
+            Address::Absent => None,
+            Address::Short(n) => Some(n as u64),
             Address::Extended(x) => mapped(eui, nwk, x),
         },
         Book::Longs => match a {
-            Address::Absent => Opt64::None64,
-            Address::Short(_) => Opt64::None64,
-            Address::Extended(x) => Opt64::Some64(x),
+            Address::Absent => None,
+            Address::Short(_) => None,
+            Address::Extended(x) => Some(x),
         },
     }
 }
 
-fn is_past(last: Opt64, x: u64) -> bool
+fn is_past(last: Option<u64>, x: u64) -> bool
     ensures { result ≡ is_past last x }
 {
     match last {
-        Opt64::None64 => true,
-        Opt64::Some64(y) => y < x,
+        None => true,
+        Some(y) => y < x,
     }
 }
 
-fn least_with(last: Opt64, m: Opt64, b: Opt64) -> Opt64
+fn least_with(last: Option<u64>, m: Option<u64>, b: Option<u64>) -> Option<u64>
     ensures { result ≡ least_with last m b }
 {
     match m {
-        Opt64::None64 => b,
-        Opt64::Some64(x) => {
+        None => b,
+        Some(x) => {
             if is_past(last, x) {
                 return records::times::sooner_of(x, b);
             }
@@ -107,12 +107,12 @@ pub fn next_member(
     book: Book,
     eui: &[u64],
     nwk: &[u16],
-    last: Opt64,
-) -> Opt64
+    last: Option<u64>,
+) -> Option<u64>
     requires { Held unicast_table w.now n }
     ensures { result ≡ next_member book eui.now nwk.now last (live unicast_table w.now n) }
 {
-    let mut least = Opt64::None64;
+    let mut least = None;
     let mut i = n;
     while 0 < i {
         let m = member_of(tables::unicast_rows::head(w, i - 1), book, eui, nwk);
@@ -129,16 +129,16 @@ pub fn source_match(
     book: Book,
     eui: &[u64],
     nwk: &[u16],
-    last: Opt64,
-) -> Listing
+    last: Option<u64>,
+) -> Result<Option<u64>, Refusal>
     requires { Held unicast_table w.now n }
     ensures { result ≡ listing_of (map_fits eui.now nwk.now) (next_member book eui.now nwk.now last (live unicast_table w.now n)) }
 {
     if map_fits(eui, nwk) {
         return match next_member(w, n, book, eui, nwk, last) {
-            Opt64::None64 => Listing::NoMore,
-            Opt64::Some64(x) => Listing::NextIs(x),
+            None => Ok(None),
+            Some(x) => Ok(Some(x)),
         };
     }
-    Listing::Barred(Refusal::MapMalformed)
+    Err(Refusal::MapMalformed)
 }

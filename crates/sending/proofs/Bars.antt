@@ -1,8 +1,8 @@
 -- What the code's tests say of a call by id: why it is refused, or that nothing bars it. Assumes nothing.
+use Rattle.std.specs.Prelude.{None, Some}
 use Prim.Native.Nat.{ℕ}
 use mathlib.Core.Path.{◌≡◌, sym, ap, ◌∙◌}
 use mathlib.Core.Bool.{Bool, true, false}
-use mathlib.Core.Option.{none, some}
 use lib.Dec.{eqb}
 use borrow.Author.Tests.{eq-eqb, ne_eqb}
 use Rattle.records.specs.Pick.{pick}
@@ -15,22 +15,22 @@ pub sending-row : {u v : Unicast} {r b : Bool} → u ≡ v → r ≡ is_sending 
 sending-row p e f = ap (λ (x : Unicast). is_sending x.stage) (sym p) ∙ sym e ∙ f
 
 module _ (frame : ℕ) (v : Unicast) where
-  pub report-idle : is_sending v.stage ≡ false → report_bar frame (some v) ≡ some NotInTheRadio
-  report-idle e = ap (λ (b : Bool). pick b (pick (eqb v.frame frame) none (some OtherFrame)) (some NotInTheRadio)) e
+  pub report-idle : is_sending v.stage ≡ false → report_bar frame (Some v) ≡ Some NotInTheRadio
+  report-idle e = ap (λ (b : Bool). pick b (pick (eqb v.frame frame) None (Some OtherFrame)) (Some NotInTheRadio)) e
 
-  sent : (b : Bool) → is_sending v.stage ≡ true → eqb v.frame frame ≡ b → report_bar frame (some v) ≡ pick b none (some OtherFrame)
+  sent : (b : Bool) → is_sending v.stage ≡ true → eqb v.frame frame ≡ b → report_bar frame (Some v) ≡ pick b None (Some OtherFrame)
   sent b e f =
-      ap (λ (d : Bool). pick d (pick (eqb v.frame frame) none (some OtherFrame)) (some NotInTheRadio)) e
-      ∙ ap (λ (d : Bool). pick d none (some OtherFrame)) f
+      ap (λ (d : Bool). pick d (pick (eqb v.frame frame) None (Some OtherFrame)) (Some NotInTheRadio)) e
+      ∙ ap (λ (d : Bool). pick d None (Some OtherFrame)) f
 
-  pub report-frame : {u : Unicast} → is_sending v.stage ≡ true → u ≡ v → u.frame ≡ frame → report_bar frame (some v) ≡ none
+  pub report-frame : {u : Unicast} → is_sending v.stage ≡ true → u ≡ v → u.frame ≡ frame → report_bar frame (Some v) ≡ None
   report-frame e p f = sent true e (eq-eqb v.frame frame (ap (λ (x : Unicast). x.frame) (sym p) ∙ f))
 
-  pub report-other : {u : Unicast} → is_sending v.stage ≡ true → u ≡ v → (u.frame ≡ frame → ⊥) → report_bar frame (some v) ≡ some OtherFrame
+  pub report-other : {u : Unicast} → is_sending v.stage ≡ true → u ≡ v → (u.frame ≡ frame → ⊥) → report_bar frame (Some v) ≡ Some OtherFrame
   report-other e p f = sent false e (ne_eqb v.frame frame (λ q. f (ap (λ (x : Unicast). x.frame) p ∙ q)))
 
-pub cancel-sending : (v : Unicast) → is_sending v.stage ≡ true → cancel_bar (some v) ≡ some InTheRadio
-cancel-sending v e = ap (λ (b : Bool). pick b (some InTheRadio) none) e
+pub cancel-sending : (v : Unicast) → is_sending v.stage ≡ true → cancel_bar (Some v) ≡ Some InTheRadio
+cancel-sending v e = ap (λ (b : Bool). pick b (Some InTheRadio) None) e
 
-pub cancel-idle : (v : Unicast) → is_sending v.stage ≡ false → cancel_bar (some v) ≡ none
-cancel-idle v e = ap (λ (b : Bool). pick b (some InTheRadio) none) e
+pub cancel-idle : (v : Unicast) → is_sending v.stage ≡ false → cancel_bar (Some v) ≡ None
+cancel-idle v e = ap (λ (b : Bool). pick b (Some InTheRadio) None) e

@@ -1,11 +1,11 @@
 -- The best queued, the oldest for a poll and for an ack, and the count of entries over each call. Assumes only that ids rise.
+use Rattle.std.specs.Prelude.{Option, None, Some}
 use Prim.Native.Nat.{ℕ, suc, ◌+◌, ◌<◌, ◌≤◌}
 use native.Mathlib.Omega.{arith}
 use mathlib.Core.Path.{◌≡◌, refl, sym, ap, ◌∙◌}
 use mathlib.Core.Bool.{Bool, true, false, ◌&&◌}
 use mathlib.Core.List.{List, [], ◌∷◌}
 use mathlib.Core.Logic.{◌⊎◌, inl, inr, ⊎_elim}
-use mathlib.Core.Option.{Option, none, some}
 use lib.Dec.{ltb}
 use borrow.Author.Tests.{lt-ltb, le-ltb, ltb-true}
 use Rattle.records.specs.Pick.{pick}
@@ -19,7 +19,7 @@ use Rattle.rows.specs.Moves.{each, each_told, at_first, at_first_told, first_of,
 use Rattle.rows.specs.Moves.Turn.{Keeps}
 use Rattle.rows.proofs.Promises.{entries, each-count, first_count}
 use Rattle.tables.specs.Layouts.{unicast_head}
-use Rattle.sending.specs.Types.{Opt16, Opt64, Address, Priority, AckKey, Stage, Transmitting, Unicast, TxResult, Best, NoneReady, Ready}
+use Rattle.sending.specs.Types.{Address, Priority, AckKey, Stage, Transmitting, Unicast, TxResult}
 use Rattle.sending.specs.Rules.{remade_of, with_stage, pends, is_awaiting, lend_turn, poll_turn, polled_of, keyed, ack_turn, report_turn, tick_turn, under, awaits, drop_turn, cancel_turn, copy_turn, ready, better_of}
 use Rattle.sending.specs.Lists.{best_of}
 use Rattle.sending.specs.Claims.{Tops, IsBest, IsOldest}
@@ -48,7 +48,7 @@ above lo (u ∷ us) r =
 abbrev Under : ℕ → ℕ → Priority → Unicast → Type 0
 Under now i p v = ready now v ≡ true → (rank_of v.priority < rank_of p) ⊎ ((rank_of v.priority ≡ rank_of p) × (i ≤ v.id))
 
--- ---- the best queued is of highest priority and then of lowest id, and nothing exactly when none is
+-- ---- the best queued is of highest priority and then of lowest id, and nothing exactly when None is
 
 pub best-is-best : (now lo : ℕ) (us : List Unicast) → Rising unicast_id lo us → IsBest now us (best_of now us)
 best-is-best now lo [] r = tt
@@ -88,19 +88,19 @@ best-is-best now lo (u ∷ us) r =
           tops = ((λ q. inr (refl, omega arith)), all_map (λ (v : Unicast). ready now v ≡ false) (Under now u.id u.priority) (λ v f q. never (sym f ∙ q)) us a);
         }
 
-    passed : (b : Best) → ready now u ≡ false → IsBest now us b → IsBest now (u ∷ us) b
-    passed NoneReady e a = (e, a)
-    passed (Ready i p) e t = record { is = inr t.is; tops = ((λ q. never (sym e ∙ q)), t.tops) }
+    passed : (b : Option (ℕ × Priority)) → ready now u ≡ false → IsBest now us b → IsBest now (u ∷ us) b
+    passed None e a = (e, a)
+    passed (Some (i, p)) e t = record { is = inr t.is; tops = ((λ q. never (sym e ∙ q)), t.tops) }
 
-    chosen : (b : Best) → ready now u ≡ true → IsBest now us b → All (λ (v : Unicast). suc u.id ≤ v.id) us → IsBest now (u ∷ us) (better_of (unicast_head u) b)
-    chosen NoneReady e a o = alone e a
-    chosen (Ready i p) e t o =
+    chosen : (b : Option (ℕ × Priority)) → ready now u ≡ true → IsBest now us b → All (λ (v : Unicast). suc u.id ≤ v.id) us → IsBest now (u ∷ us) (better_of (unicast_head u) b)
+    chosen None e a o = alone e a
+    chosen (Some (i, p)) e t o =
         ⊎_elim
         (λ l. rw (lt-ltb (rank_of u.priority) (rank_of p) l) (loses i p l t))
         (λ l. rw (le-ltb (rank_of u.priority) (rank_of p) l) (wins i p e l t o))
         (lt-or-le (rank_of u.priority) (rank_of p))
 
-    go : (b : Bool) → ready now u ≡ b → (x : Best) → IsBest now us x → All (λ (v : Unicast). suc u.id ≤ v.id) us
+    go : (b : Bool) → ready now u ≡ b → (x : Option (ℕ × Priority)) → IsBest now us x → All (λ (v : Unicast). suc u.id ≤ v.id) us
         → IsBest now (u ∷ us) (pick b (better_of (unicast_head u) x) x)
     go true e x a o = chosen x e a o
     go false e x a o = passed x e a
@@ -112,19 +112,19 @@ first-is-oldest q lo [] r = tt
 first-is-oldest q lo (u ∷ us) r = go (q u) refl (first_of q us) (first-is-oldest q (suc u.id) us r.1) (above (suc u.id) us r.1)
   where
     later : (o : Option Unicast) → q u ≡ false → IsOldest q us o → IsOldest q (u ∷ us) o
-    later none e a = (e, a)
-    later (some v) e a = record { has = a.has; there = inr a.there; first = ((λ f. never (sym e ∙ f)), a.first) }
+    later None e a = (e, a)
+    later (Some v) e a = record { has = a.has; there = inr a.there; first = ((λ f. never (sym e ∙ f)), a.first) }
 
-    go : (b : Bool) → q u ≡ b → (o : Option Unicast) → IsOldest q us o → All (λ (v : Unicast). suc u.id ≤ v.id) us → IsOldest q (u ∷ us) (pick b (some u) o)
+    go : (b : Bool) → q u ≡ b → (o : Option Unicast) → IsOldest q us o → All (λ (v : Unicast). suc u.id ≤ v.id) us → IsOldest q (u ∷ us) (pick b (Some u) o)
     go true e o a l = record { has = e; there = inl refl; first = ((λ f. omega arith), all_map (From (suc u.id)) (λ (v : Unicast). q v ≡ true → u.id ≤ v.id) (λ v (h : suc u.id ≤ v.id) f. omega arith) us l) }
     go false e o a l = later o e a
 
 -- a poll takes the oldest awaiting, unexpired frame under either address
-pub poll-takes-oldest : (eui : Opt64) (nwk : Opt16) (now lo : ℕ) (us : List Unicast) → Rising unicast_id lo us
+pub poll-takes-oldest : (eui : Option ℕ) (nwk : Option ℕ) (now lo : ℕ) (us : List Unicast) → Rising unicast_id lo us
     → IsOldest (awaits eui nwk now) us (first_of (awaits eui nwk now) us)
 poll-takes-oldest eui nwk now lo us r = first-is-oldest (awaits eui nwk now) lo us r
 
-pub polled-means : (eui : Opt64) (nwk : Opt16) (now : ℕ) (u : Unicast) → awaits eui nwk now u ≡ true
+pub polled-means : (eui : Option ℕ) (nwk : Option ℕ) (now : ℕ) (u : Unicast) → awaits eui nwk now u ≡ true
     → (is_awaiting u.stage ≡ true) × ((now < u.deadline) × (under eui nwk u.poll_address ≡ true))
 polled-means eui nwk now u e =
     let a = both (is_awaiting u.stage) (ltb now u.deadline && under eui nwk u.poll_address) e in
@@ -157,7 +157,7 @@ module _ (p : Entry → Bool) (us : List Unicast) where
   pub tick-count : (now : ℕ) → entries unicast_entry p us ≡ entries unicast_entry p (each (tick_turn now) us) + count p (settled_of (each_told unicast_entry (tick_turn now) us))
   tick-count now = each-count unicast_entry p (tick_turn now) (tick-same now) us
 
-  pub drop-count : (eui : Opt64) (nwk : ℕ)
+  pub drop-count : (eui : Option ℕ) (nwk : ℕ)
       → entries unicast_entry p us ≡ entries unicast_entry p (each (drop_turn eui nwk) us) + count p (settled_of (each_told unicast_entry (drop_turn eui nwk) us))
   drop-count eui nwk = each-count unicast_entry p (drop_turn eui nwk) (drop-same eui nwk) us
 
@@ -178,7 +178,7 @@ module _ (p : Entry → Bool) (us : List Unicast) where
       ≡ entries unicast_entry p (at_first (has_id unicast_entry i) cancel_turn us) + count p (settled_of (at_first_told unicast_entry (has_id unicast_entry i) cancel_turn us))
   cancel-count i = first_count unicast_entry p (has_id unicast_entry i) cancel_turn cancel-same us
 
-  -- a poll and a dequeue settle none
+  -- a poll and a dequeue settle None
   quiet-count : (q : Unicast → Bool) (g : Unicast → Unicast) → ((u : Unicast) → unicast_entry (g u) ≡ unicast_entry u)
       → entries unicast_entry p us ≡ entries unicast_entry p (at_first q (λ (u : Unicast). Keeps (g u)) us)
   quiet-count q g s =
@@ -189,7 +189,7 @@ module _ (p : Entry → Bool) (us : List Unicast) where
       ap (λ (l : List Action). count p (settled_of l)) (quiet q g us) in
       omega arith
 
-  pub poll-count : (eui : Opt64) (nwk : Opt16) (now : ℕ) → entries unicast_entry p us ≡ entries unicast_entry p (at_first (awaits eui nwk now) poll_turn us)
+  pub poll-count : (eui : Option ℕ) (nwk : Option ℕ) (now : ℕ) → entries unicast_entry p us ≡ entries unicast_entry p (at_first (awaits eui nwk now) poll_turn us)
   poll-count eui nwk now = quiet-count (awaits eui nwk now) polled_of poll-same
 
   pub dequeue-count : (i : ℕ) → entries unicast_entry p us ≡ entries unicast_entry p (at_first (has_id unicast_entry i) lend_turn us)

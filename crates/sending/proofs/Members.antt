@@ -1,4 +1,5 @@
 -- How the code's loops read the address map, and what the next member of a source-match set is. Assumes nothing.
+use Rattle.std.specs.Prelude.{Option, None, Some}
 use Prim.Native.Nat.{ℕ, ◌+◌, ◌<◌, ◌≤◌}
 use native.Mathlib.Numerals.{add-one}
 use native.Mathlib.Omega.{arith}
@@ -13,7 +14,7 @@ use borrow.Author.Tests.{lt-ltb, le-ltb, eq-eqb, ne_eqb, le-leb, lt-leb}
 use Rattle.records.specs.Pick.{pick}
 use Rattle.records.specs.Times.{sooner}
 use Rattle.records.proofs.Cases.{lt-or-le, never}
-use Rattle.sending.specs.Types.{Opt64, None64, Some64, Stage, Queued, Transmitting, Retrying, AwaitingPoll, AwaitingApsAck, Unicast}
+use Rattle.sending.specs.Types.{Stage, Queued, Transmitting, Retrying, AwaitingPoll, AwaitingApsAck, Unicast}
 use Rattle.sending.specs.declared.Book.{Book}
 use Rattle.sending.specs.Claims.{IsNext, wake_at}
 use Rattle.sending.specs.Rules.{wake_by}
@@ -57,51 +58,51 @@ module _ (es : List ℕ) where
 
 -- ---- the address that one is mapped to
 
-module _ (x : ℕ) (es ns : List ℕ) (i : ℕ) {r : Opt64} (inv : mapped_in x (drop i es) (drop i ns) ≡ r) where
-  map-turn : i < length es → i < length ns → pick (eqb (get_or es i 0) x) (Some64 (get_or ns i 0)) (mapped_in x (drop (i + 1) es) (drop (i + 1) ns)) ≡ r
+module _ (x : ℕ) (es ns : List ℕ) (i : ℕ) {r : Option ℕ} (inv : mapped_in x (drop i es) (drop i ns) ≡ r) where
+  map-turn : i < length es → i < length ns → pick (eqb (get_or es i 0) x) (Some (get_or ns i 0)) (mapped_in x (drop (i + 1) es) (drop (i + 1) ns)) ≡ r
   map-turn h l = ap₂ (mapped_in x) (sym (left-cons es i h)) (sym (left-cons ns i l)) ∙ inv
 
-  pub map-here : i < length es → i < length ns → get_or es i 0 ≡ x → Some64 (get_or ns i 0) ≡ r
+  pub map-here : i < length es → i < length ns → get_or es i 0 ≡ x → Some (get_or ns i 0) ≡ r
   map-here h l e =
-      sym (ap (λ (b : Bool). pick b (Some64 (get_or ns i 0)) (mapped_in x (drop (i + 1) es) (drop (i + 1) ns))) (eq-eqb (get_or es i 0) x e)) ∙ map-turn h l
+      sym (ap (λ (b : Bool). pick b (Some (get_or ns i 0)) (mapped_in x (drop (i + 1) es) (drop (i + 1) ns))) (eq-eqb (get_or es i 0) x e)) ∙ map-turn h l
 
   pub map_on : i < length es → i < length ns → (get_or es i 0 ≡ x → ⊥) → mapped_in x (drop (i + 1) es) (drop (i + 1) ns) ≡ r
   map_on h l e =
-      sym (ap (λ (b : Bool). pick b (Some64 (get_or ns i 0)) (mapped_in x (drop (i + 1) es) (drop (i + 1) ns))) (ne_eqb (get_or es i 0) x e)) ∙ map-turn h l
+      sym (ap (λ (b : Bool). pick b (Some (get_or ns i 0)) (mapped_in x (drop (i + 1) es) (drop (i + 1) ns))) (ne_eqb (get_or es i 0) x e)) ∙ map-turn h l
 
-  pub map-out : i < length es → length ns ≤ i → None64 ≡ r
+  pub map-out : i < length es → length ns ≤ i → None ≡ r
   map-out h l = ap₂ (mapped_in x) (sym (left-cons es i h)) (sym (drop_of_length-le ns l)) ∙ inv
 
-  pub map-end : length es ≤ i → None64 ≡ r
+  pub map-end : length es ≤ i → None ≡ r
   map-end h = ap (λ (l : List ℕ). mapped_in x l (drop i ns)) (sym (drop_of_length-le es h)) ∙ inv
 
 -- ---- the least of those past the last one, and there is none exactly when none is past it
 
-module _ (m : Unicast → Opt64) (last : Opt64) where
+module _ (m : Unicast → Option ℕ) (last : Option ℕ) where
   abbrev Least : ℕ → Unicast → Type 0
-  Least x u = (y : ℕ) → m u ≡ Some64 y → is_past last y ≡ true → x ≤ y
+  Least x u = (y : ℕ) → m u ≡ Some y → is_past last y ≡ true → x ≤ y
 
   abbrev Clear : Unicast → Type 0
-  Clear u = (y : ℕ) → m u ≡ Some64 y → is_past last y ≡ false
+  Clear u = (y : ℕ) → m u ≡ Some y → is_past last y ≡ false
 
   module _ (u : Unicast) (us : List Unicast) where
     -- what u puts there is not past the last one
-    skip : (b : Opt64) → Clear u → IsNext m last us b → IsNext m last (u ∷ us) b
-    skip None64 f a = (f, a)
-    skip (Some64 x) f t = record { is = inr t.is; past = t.past; least = ((λ y g p. never (sym (f y g) ∙ p)), t.least) }
+    skip : (b : Option ℕ) → Clear u → IsNext m last us b → IsNext m last (u ∷ us) b
+    skip None f a = (f, a)
+    skip (Some x) f t = record { is = inr t.is; past = t.past; least = ((λ y g p. never (sym (f y g) ∙ p)), t.least) }
 
-    module _ (x : ℕ) (e : m u ≡ Some64 x) where
-      own : (y : ℕ) → m u ≡ Some64 y → x ≡ y
+    module _ (x : ℕ) (e : m u ≡ Some x) where
+      own : (y : ℕ) → m u ≡ Some y → x ≡ y
       own y g = cc
 
-      enter : (b : Opt64) → is_past last x ≡ true → IsNext m last us b → IsNext m last (u ∷ us) (sooner x b)
-      enter None64 f a =
+      enter : (b : Option ℕ) → is_past last x ≡ true → IsNext m last us b → IsNext m last (u ∷ us) (sooner x b)
+      enter None f a =
           record {
             is = inl e;
             past = f;
             least = ((λ y g p. let h : x ≡ y = own y g in omega arith), all_map Clear (Least x) (λ v h y g p. never (sym (h y g) ∙ p)) us a);
           }
-      enter (Some64 z) f t =
+      enter (Some z) f t =
           ⊎_elim
           (λ (l : z < x).
           rw (lt-leb x z l)
@@ -118,36 +119,36 @@ module _ (m : Unicast → Opt64) (last : Opt64) where
           }))
           (lt-or-le z x)
 
-      by : (t : Bool) → is_past last x ≡ t → (b : Opt64) → IsNext m last us b → IsNext m last (u ∷ us) (pick t (sooner x b) b)
+      by : (t : Bool) → is_past last x ≡ t → (b : Option ℕ) → IsNext m last us b → IsNext m last (u ∷ us) (pick t (sooner x b) b)
       by true f b a = enter b f a
       by false f b a = skip b (λ y g. ap (is_past last) (sym (own y g)) ∙ f) a
 
-    more : (o : Opt64) → m u ≡ o → (b : Opt64) → IsNext m last us b → IsNext m last (u ∷ us) (least_with last o b)
-    more None64 e b a = skip b (λ y g. let z : ◌≡◌ {A = ℕ} 0 1 = cc in absurd (omega arith)) a
-    more (Some64 x) e b a = by x e (is_past last x) refl b a
+    more : (o : Option ℕ) → m u ≡ o → (b : Option ℕ) → IsNext m last us b → IsNext m last (u ∷ us) (least_with last o b)
+    more None e b a = skip b (λ y g. let z : ◌≡◌ {A = ℕ} 0 1 = cc in absurd (omega arith)) a
+    more (Some x) e b a = by x e (is_past last x) refl b a
 
   pub least-is-next : (us : List Unicast) → IsNext m last us (least_of m last us)
   least-is-next [] = tt
   least-is-next (u ∷ us) = more u us (m u) refl (least_of m last us) (least-is-next us)
 
-pub next-is-next : (book : Book) (es ns : List ℕ) (last : Opt64) (us : List Unicast) → IsNext (member_of book es ns) last us (next_member book es ns last us)
+pub next-is-next : (book : Book) (es ns : List ℕ) (last : Option ℕ) (us : List Unicast) → IsNext (member_of book es ns) last us (next_member book es ns last us)
 next-is-next book es ns last us = least-is-next (member_of book es ns) last us
 
 -- ---- the next wake is the least over the sends that are not in the radio
 
-wake-step : (u : Unicast) (o : Opt64) → wake_step u o ≡ least_step wake_at None64 u o
+wake-step : (u : Unicast) (o : Option ℕ) → wake_step u o ≡ least_step wake_at None u o
 wake-step u o = go u.stage
   where
-    go : (s : Stage) → wake_by u.deadline o s ≡ least_with None64 (wake_by u.deadline None64 s) o
+    go : (s : Stage) → wake_by u.deadline o s ≡ least_with None (wake_by u.deadline None s) o
     go Queued = refl
     go (Transmitting k) = refl
     go (Retrying at) = refl
     go AwaitingPoll = refl
     go AwaitingApsAck = refl
 
-wake-least : (us : List Unicast) → least_of wake_at None64 us ≡ wake_of us
+wake-least : (us : List Unicast) → least_of wake_at None us ≡ wake_of us
 wake-least [] = refl
-wake-least (u ∷ us) = sym (wake-step u (least_of wake_at None64 us)) ∙ ap (wake_step u) (wake-least us)
+wake-least (u ∷ us) = sym (wake-step u (least_of wake_at None us)) ∙ ap (wake_step u) (wake-least us)
 
-pub wake-is-least : (us : List Unicast) → IsNext wake_at None64 us (wake_of us)
-wake-is-least us = subst (IsNext wake_at None64 us) (wake-least us) (least-is-next wake_at None64 us)
+pub wake-is-least : (us : List Unicast) → IsNext wake_at None us (wake_of us)
+wake-is-least us = subst (IsNext wake_at None us) (wake-least us) (least-is-next wake_at None us)

@@ -1,4 +1,5 @@
 -- What the tests of the code say of a send's turn; each rule keeps the entry; a sweep by heads is 01's rule; what a call need not look at. Assumes nothing.
+use Rattle.std.specs.Prelude.{Option, None, Some}
 use Prim.Native.Nat.{ℕ}
 use mathlib.Core.Path.{◌≡◌, refl, sym, ap, ◌∙◌}
 use mathlib.Core.Bool.{Bool, true, false, not, ◌&&◌, ◌||◌}
@@ -10,7 +11,7 @@ use Rattle.records.specs.Records.{unicast_entry}
 use Rattle.rows.specs.Moves.Turn.{Keeps, Settles}
 use Rattle.rows.specs.Moves.{Same, any_of}
 use Rattle.tables.specs.Layouts.{unicast_head}
-use Rattle.sending.specs.Types.{None16, Some16, Opt64, Address, Absent, Short, Extended, AckKey, Confirm, OnHandoff, ApsAck, Stage, Queued, Transmitting, Retrying, AwaitingPoll, AwaitingApsAck, Unicast, TxResult, Sent, Failed, ApsAckTimeout, Cancelled, Failure, UnicastHead, Due, Leave, Requeue, Finish, Which, Lapsed, Dropped, CopyOf, Sought}
+use Rattle.sending.specs.Types.{Address, Absent, Short, Extended, AckKey, Confirm, OnHandoff, ApsAck, Stage, Queued, Transmitting, Retrying, AwaitingPoll, AwaitingApsAck, Unicast, TxResult, Sent, Failed, ApsAckTimeout, Cancelled, Failure, UnicastHead, Due, Leave, Requeue, Finish, Which, Lapsed, Dropped, CopyOf, Sought}
 use Rattle.sending.specs.Rules.{with_stage, is_awaiting, is_acking, lend_turn, poll_turn, keyed_by, keyed, ack_by, ack_turn, hand_off_by, fail_held, fail_by, report_sent, report_by, report_turn, unsent, requeued, lapse_by, lapse_turn, tick_turn, retries, stirs, under, drop_turn, cancel_turn, copies, copy_turn, pending_head, names, beside, sought_head, sought, tick_due, due_head, due_turn, sweep_turn}
 
 -- ---- what the code read
@@ -85,8 +86,8 @@ tick-same now u =
     go v e AwaitingPoll = tt
     go v e AwaitingApsAck = tt
 
-pub drop-same : (eui : Opt64) (nwk : ℕ) (u : Unicast) → Same unicast_entry u (drop_turn eui nwk u)
-drop-same eui nwk u = either (Same unicast_entry u) (is_awaiting u.stage && under eui (Some16 nwk) u.poll_address) tt refl
+pub drop-same : (eui : Option ℕ) (nwk : ℕ) (u : Unicast) → Same unicast_entry u (drop_turn eui nwk u)
+drop-same eui nwk u = either (Same unicast_entry u) (is_awaiting u.stage && under eui (Some nwk) u.poll_address) tt refl
 
 pub copy-same : (i : ℕ) (u : Unicast) → Same unicast_entry u (copy_turn i u)
 copy-same i u = either (Same unicast_entry u) (copies i u) tt refl
@@ -100,7 +101,7 @@ sweep-tick now u = go u.stage refl
     go Queued e = by (leb u.deadline now)
       where
         by : (b : Bool) → due_turn (pick b (Finish false (unsent u.poll_address)) Leave) u
-            ≡ pick b (Settles false (Failure (unsent u.poll_address)) None16) (Keeps (with_stage u Queued))
+            ≡ pick b (Settles false (Failure (unsent u.poll_address)) None) (Keeps (with_stage u Queued))
         by true = refl
         by false = ap (λ (s : Stage). Keeps (with_stage u s)) e
     go (Transmitting k) e = by (leb u.deadline now)
@@ -119,21 +120,21 @@ sweep-tick now u = go u.stage refl
     go AwaitingPoll e = by (leb u.deadline now)
       where
         by : (b : Bool) → due_turn (pick b (Finish false (unsent u.poll_address)) Leave) u
-            ≡ pick b (Settles false (Failure (unsent u.poll_address)) None16) (Keeps (with_stage u AwaitingPoll))
+            ≡ pick b (Settles false (Failure (unsent u.poll_address)) None) (Keeps (with_stage u AwaitingPoll))
         by true = refl
         by false = ap (λ (s : Stage). Keeps (with_stage u s)) e
     go AwaitingApsAck e = by (leb u.deadline now)
       where
         by : (b : Bool) → due_turn (pick b (Finish true ApsAckTimeout) Leave) u
-            ≡ pick b (Settles true (Failure ApsAckTimeout) None16) (Keeps (with_stage u AwaitingApsAck))
+            ≡ pick b (Settles true (Failure ApsAckTimeout) None) (Keeps (with_stage u AwaitingApsAck))
         by true = refl
         by false = ap (λ (s : Stage). Keeps (with_stage u s)) e
 
-pub sweep-drop : (eui : Opt64) (nwk : ℕ) (u : Unicast) → sweep_turn (Dropped eui nwk) u ≡ drop_turn eui nwk u
-sweep-drop eui nwk u = go u.stage (under eui (Some16 nwk) u.poll_address)
+pub sweep-drop : (eui : Option ℕ) (nwk : ℕ) (u : Unicast) → sweep_turn (Dropped eui nwk) u ≡ drop_turn eui nwk u
+sweep-drop eui nwk u = go u.stage (under eui (Some nwk) u.poll_address)
   where
     go : (s : Stage) (b : Bool) → due_turn (pick (is_awaiting s && b) (Finish false (unsent u.poll_address)) Leave) u
-        ≡ pick (is_awaiting s && b) (Settles (is_acking s) (Failure (unsent u.poll_address)) None16) (Keeps u)
+        ≡ pick (is_awaiting s && b) (Settles (is_acking s) (Failure (unsent u.poll_address)) None) (Keeps u)
     go Queued b = refl
     go (Transmitting k) b = refl
     go (Retrying t) b = refl

@@ -1,14 +1,13 @@
 -- What the rules on the list mean: the statements; proofs/Claims.antt proves them.
-use Rattle.std.specs.Prelude.{ℕ, ◌<◌, ◌≤◌, ◌≡◌, Bool, true, false, List, [], ◌∷◌, ◌⊎◌}
-use Rattle.std.proofs.Math.Option.{Option, none, some}
+use Rattle.std.specs.Prelude.{ℕ, ◌<◌, ◌≤◌, ◌≡◌, Bool, true, false, List, [], ◌∷◌, ◌⊎◌, Option, None, Some}
 use Rattle.records.specs.Priorities.{rank_of}
 use Rattle.rows.specs.Lists.{All}
-use Rattle.sending.specs.Types.{Opt64, None64, Some64, Priority, Unicast, Best, NoneReady, Ready}
+use Rattle.sending.specs.Types.{Priority, Unicast}
 use Rattle.sending.specs.Members.{is_past}
 use Rattle.sending.specs.Rules.{ready, wake_head}
 use Rattle.tables.specs.Layouts.{unicast_head}
 
--- some send of the list has the property
+-- Some send of the list has the property
 abbrev pub Some : (Unicast → Type 0) → List Unicast → Type 0
 Some P [] = ⊥
 Some P (u ∷ us) = P u ⊎ Some P us
@@ -18,32 +17,32 @@ pub record Tops (now : ℕ) (us : List Unicast) (i : ℕ) (p : Priority) : Type 
   pub is : Some (λ (u : Unicast). (ready now u ≡ true) × ((u.id ≡ i) × (u.priority ≡ p))) us
   pub tops : All (λ (u : Unicast). ready now u ≡ true → (rank_of u.priority < rank_of p) ⊎ ((rank_of u.priority ≡ rank_of p) × (i ≤ u.id))) us
 
--- nothing exactly when none is queued and unexpired
-abbrev pub IsBest : ℕ → List Unicast → Best → Type 0
-IsBest now us NoneReady = All (λ (u : Unicast). ready now u ≡ false) us
-IsBest now us (Ready i p) = Tops now us i p
+-- nothing exactly when None is queued and unexpired
+abbrev pub IsBest : ℕ → List Unicast → Option (ℕ × Priority) → Type 0
+IsBest now us None = All (λ (u : Unicast). ready now u ≡ false) us
+IsBest now us (Some (i, p)) = Tops now us i p
 
--- the first with a test is the oldest with it: it has the test, and no other with the test has a lower id; or none has it
+-- the first with a test is the oldest with it: it has the test, and no other with the test has a lower id; or None has it
 pub record Oldest (q : Unicast → Bool) (us : List Unicast) (u : Unicast) : Type 0 where
   pub has : q u ≡ true
   pub there : Some (λ (v : Unicast). v ≡ u) us
   pub first : All (λ (v : Unicast). q v ≡ true → u.id ≤ v.id) us
 
 abbrev pub IsOldest : (Unicast → Bool) → List Unicast → Option Unicast → Type 0
-IsOldest q us none = All (λ (u : Unicast). q u ≡ false) us
-IsOldest q us (some u) = Oldest q us u
+IsOldest q us None = All (λ (u : Unicast). q u ≡ false) us
+IsOldest q us (Some u) = Oldest q us u
 
--- where each send has a number or none, and the last one is given or not: some send has x, it is past the last one, and no number past that one is less; or
--- none is past it. So it is with the next member of a source-match set, and with the next wake.
-pub record Next (m : Unicast → Opt64) (last : Opt64) (us : List Unicast) (x : ℕ) : Type 0 where
-  pub is : Some (λ (u : Unicast). m u ≡ Some64 x) us
+-- where each send has a number or None, and the last one is given or not: Some send has x, it is past the last one, and no number past that one is less; or
+-- None is past it. So it is with the next member of a source-match set, and with the next wake.
+pub record Next (m : Unicast → Option ℕ) (last : Option ℕ) (us : List Unicast) (x : ℕ) : Type 0 where
+  pub is : Some (λ (u : Unicast). m u ≡ Some x) us
   pub past : is_past last x ≡ true
-  pub least : All (λ (u : Unicast). (y : ℕ) → m u ≡ Some64 y → is_past last y ≡ true → x ≤ y) us
+  pub least : All (λ (u : Unicast). (y : ℕ) → m u ≡ Some y → is_past last y ≡ true → x ≤ y) us
 
-abbrev pub IsNext : (Unicast → Opt64) → Opt64 → List Unicast → Opt64 → Type 0
-IsNext m last us None64 = All (λ (u : Unicast). (y : ℕ) → m u ≡ Some64 y → is_past last y ≡ false) us
-IsNext m last us (Some64 x) = Next m last us x
+abbrev pub IsNext : (Unicast → Option ℕ) → Option ℕ → List Unicast → Option ℕ → Type 0
+IsNext m last us None = All (λ (u : Unicast). (y : ℕ) → m u ≡ Some y → is_past last y ≡ false) us
+IsNext m last us (Some x) = Next m last us x
 
 -- when a send wakes: not while it is in the radio; at its retry or its deadline, whichever is sooner
-abbrev pub wake_at : Unicast → Opt64
-wake_at u = wake_head (unicast_head u) None64
+abbrev pub wake_at : Unicast → Option ℕ
+wake_at u = wake_head (unicast_head u) None

@@ -1,5 +1,5 @@
 -- 01's rules of unicasts, on one send: what each call makes of it, as a turn, and what is asked of it.
-use Rattle.std.specs.Prelude.{ℕ, ◌+◌, ◌-◌, Bool, true, false, not, ◌&&◌, ◌||◌, ltb, leb, eqb}
+use Rattle.std.specs.Prelude.{ℕ, ◌+◌, ◌-◌, Bool, true, false, not, ◌&&◌, ◌||◌, ltb, leb, eqb, Option, None, Some}
 use Rattle.records.specs.Pick.{pick}
 use Rattle.records.specs.Priorities.{rank_of}
 use Rattle.records.specs.Same.{same_address, same_ack_key}
@@ -7,7 +7,7 @@ use Rattle.records.specs.Times.{sooner}
 use Rattle.rows.specs.Moves.{Turn}
 use Rattle.rows.specs.Moves.Turn.{Keeps, HandsOff, Settles}
 use Rattle.tables.specs.Layouts.{unicast_head}
-use Rattle.sending.specs.Types.{Opt16, None16, Some16, Opt32, None32, Some32, Opt64, None64, Some64, Address, Absent, Short, Extended, Priority, StackCritical, AckKey, Confirm, OnHandoff, ApsAck, Stage, Queued, Transmitting, Retrying, AwaitingPoll, AwaitingApsAck, Unicast, Settings, TxResult, Sent, Failed, SendFailure, HandoffTimeout, ApsAckTimeout, IndirectExpired, Cancelled, Verdict, Success, Failure, Code, UnicastHead, UnicastTurn, KeepsU, HandsOffU, SettlesU, Due, Leave, Requeue, Finish, Which, Lapsed, Dropped, CopyOf, Sought, Pending, Beside, SentCopy, Best, NoneReady, Ready}
+use Rattle.sending.specs.Types.{Address, Absent, Short, Extended, Priority, StackCritical, AckKey, Confirm, OnHandoff, ApsAck, Stage, Queued, Transmitting, Retrying, AwaitingPoll, AwaitingApsAck, Unicast, Settings, TxResult, Sent, Failed, SendFailure, HandoffTimeout, ApsAckTimeout, IndirectExpired, Cancelled, Verdict, Success, Failure, Code, UnicastHead, UnicastTurn, KeepsU, HandsOffU, SettlesU, Due, Leave, Requeue, Finish, Which, Lapsed, Dropped, CopyOf, Sought, Pending, Beside, SentCopy}
 
 -- the turn that a rule of the code answers
 abbrev pub turn_u : UnicastTurn → Turn Unicast
@@ -44,21 +44,21 @@ stage_for (Short n) = AwaitingPoll
 stage_for (Extended n) = AwaitingPoll
 
 -- no poll address: now + handoff timeout, or the admitted deadline
-abbrev pub sent_by : ℕ → Opt64 → ℕ
-sent_by d None64 = d
-sent_by d (Some64 t) = t
+abbrev pub sent_by : ℕ → Option ℕ → ℕ
+sent_by d None = d
+sent_by d (Some t) = t
 
 -- a poll address: now + persistence time, or the admitted deadline if less
-abbrev pub polled_by : ℕ → Opt64 → ℕ
-polled_by d None64 = d
-polled_by d (Some64 t) = pick (ltb t d) t d
+abbrev pub polled_by : ℕ → Option ℕ → ℕ
+polled_by d None = d
+polled_by d (Some t) = pick (ltb t d) t d
 
-abbrev pub deadline_for : Settings → ℕ → Opt64 → Address → ℕ
+abbrev pub deadline_for : Settings → ℕ → Option ℕ → Address → ℕ
 deadline_for s now given Absent = sent_by (now + s.handoff_timeout) given
 deadline_for s now given (Short n) = polled_by (now + s.persistence_time) given
 deadline_for s now given (Extended n) = polled_by (now + s.persistence_time) given
 
-abbrev pub admitted_of : ℕ → ℕ → ℕ → Priority → Confirm → ℕ → Address → Opt32 → Settings → ℕ → Opt64 → Unicast
+abbrev pub admitted_of : ℕ → ℕ → ℕ → Priority → Confirm → ℕ → Address → Option ℕ → Settings → ℕ → Option ℕ → Unicast
 admitted_of id frame waiter priority confirm hop address copy s now given =
     record {
       id = id;
@@ -107,7 +107,7 @@ is_acking AwaitingApsAck = true
 
 -- settling from awaiting-ack repeats the handoff
 abbrev pub settle_turn : Unicast → Verdict → Turn Unicast
-settle_turn u v = Settles (is_acking u.stage) v None16
+settle_turn u v = Settles (is_acking u.stage) v None
 
 -- ---- dequeue and poll
 
@@ -133,11 +133,11 @@ keyed k u = keyed_by k u.confirm
 
 -- in the radio it is marked, else settled
 abbrev pub ack_by : Unicast → Stage → Turn Unicast
-ack_by u Queued = Settles false Success None16
+ack_by u Queued = Settles false Success None
 ack_by u (Transmitting k) = Keeps (with_stage u (Transmitting true))
-ack_by u (Retrying t) = Settles false Success None16
-ack_by u AwaitingPoll = Settles false Success None16
-ack_by u AwaitingApsAck = Settles true Success None16
+ack_by u (Retrying t) = Settles false Success None
+ack_by u AwaitingPoll = Settles false Success None
+ack_by u AwaitingApsAck = Settles true Success None
 
 abbrev pub ack_turn : Unicast → Turn Unicast
 ack_turn u = ack_by u u.stage
@@ -146,21 +146,21 @@ ack_turn u = ack_by u u.stage
 
 -- handoff: on-handoff or acked settles; else await the ack to now + wait
 abbrev pub hand_off_by : Unicast → Bool → ℕ → Confirm → Turn Unicast
-hand_off_by u acked now OnHandoff = Settles false Success None16
+hand_off_by u acked now OnHandoff = Settles false Success None
 hand_off_by u acked now (ApsAck k wait) =
-    pick acked (Settles false Success None16) (HandsOff (remade_of u u.priority u.attempts_remaining AwaitingApsAck (now + wait)))
+    pick acked (Settles false Success None) (HandsOff (remade_of u u.priority u.attempts_remaining AwaitingApsAck (now + wait)))
 
 abbrev pub hand_off : Unicast → Bool → ℕ → Turn Unicast
 hand_off u acked now = hand_off_by u acked now u.confirm
 
 -- a held one goes back to awaiting its poll if now < deadline, else settles with the code
 abbrev pub fail_held : Unicast → ℕ → ℕ → Turn Unicast
-fail_held u code now = pick (ltb now u.deadline) (Keeps (with_stage u AwaitingPoll)) (Settles false (Code code) None16)
+fail_held u code now = pick (ltb now u.deadline) (Keeps (with_stage u AwaitingPoll)) (Settles false (Code code) None)
 
 -- an unheld one with 0 attempts settles with the code and the failed hop; else one attempt less, retry at now + delay
 abbrev pub fail_unheld : Unicast → ℕ → ℕ → ℕ → Turn Unicast
 fail_unheld u code now delay =
-    pick (eqb u.attempts_remaining 0) (Settles false (Code code) (Some16 u.next_hop))
+    pick (eqb u.attempts_remaining 0) (Settles false (Code code) (Some u.next_hop))
     (Keeps (remade_of u u.priority (u.attempts_remaining - 1) (Retrying (now + delay)) u.deadline))
 
 abbrev pub fail_by : Unicast → ℕ → ℕ → ℕ → Address → Turn Unicast
@@ -202,11 +202,11 @@ requeued now AwaitingApsAck = AwaitingApsAck
 
 -- what a lapsed deadline makes of a send: nothing while it is in the radio
 abbrev pub lapse_by : Unicast → Stage → Turn Unicast
-lapse_by u Queued = Settles false (Failure (unsent u.poll_address)) None16
+lapse_by u Queued = Settles false (Failure (unsent u.poll_address)) None
 lapse_by u (Transmitting k) = Keeps u
-lapse_by u (Retrying t) = Settles false (Failure (unsent u.poll_address)) None16
-lapse_by u AwaitingPoll = Settles false (Failure (unsent u.poll_address)) None16
-lapse_by u AwaitingApsAck = Settles true (Failure ApsAckTimeout) None16
+lapse_by u (Retrying t) = Settles false (Failure (unsent u.poll_address)) None
+lapse_by u AwaitingPoll = Settles false (Failure (unsent u.poll_address)) None
+lapse_by u AwaitingApsAck = Settles true (Failure ApsAckTimeout) None
 
 abbrev pub lapse_turn : ℕ → Unicast → Turn Unicast
 lapse_turn now u = pick (leb u.deadline now) (lapse_by u u.stage) (Keeps u)
@@ -228,36 +228,36 @@ stirs now u = leb u.deadline now || retries now u.stage
 
 -- ---- under which addresses a device polls
 
-abbrev pub is_short : ℕ → Opt16 → Bool
-is_short n None16 = false
-is_short n (Some16 m) = eqb n m
+abbrev pub is_short : ℕ → Option ℕ → Bool
+is_short n None = false
+is_short n (Some m) = eqb n m
 
-abbrev pub is_long : ℕ → Opt64 → Bool
-is_long n None64 = false
-is_long n (Some64 m) = eqb n m
+abbrev pub is_long : ℕ → Option ℕ → Bool
+is_long n None = false
+is_long n (Some m) = eqb n m
 
-abbrev pub under : Opt64 → Opt16 → Address → Bool
+abbrev pub under : Option ℕ → Option ℕ → Address → Bool
 under eui nwk Absent = false
 under eui nwk (Short n) = is_short n nwk
 under eui nwk (Extended n) = is_long n eui
 
 -- awaiting and unexpired, under either address
-abbrev pub awaits : Opt64 → Opt16 → ℕ → Unicast → Bool
+abbrev pub awaits : Option ℕ → Option ℕ → ℕ → Unicast → Bool
 awaits eui nwk now u = is_awaiting u.stage && (ltb now u.deadline && under eui nwk u.poll_address)
 
 -- ---- drop, cancel, copies
 
 -- only those that await their poll under either address, as IndirectExpired
-abbrev pub drop_turn : Opt64 → ℕ → Unicast → Turn Unicast
+abbrev pub drop_turn : Option ℕ → ℕ → Unicast → Turn Unicast
 drop_turn eui nwk u =
-    pick (is_awaiting u.stage && under eui (Some16 nwk) u.poll_address) (settle_turn u (Failure (unsent u.poll_address))) (Keeps u)
+    pick (is_awaiting u.stage && under eui (Some nwk) u.poll_address) (settle_turn u (Failure (unsent u.poll_address))) (Keeps u)
 
 abbrev pub cancel_turn : Unicast → Turn Unicast
 cancel_turn u = settle_turn u (Failure Cancelled)
 
-abbrev pub copies_by : ℕ → Opt32 → Bool
-copies_by i None32 = false
-copies_by i (Some32 j) = eqb j i
+abbrev pub copies_by : ℕ → Option ℕ → Bool
+copies_by i None = false
+copies_by i (Some j) = eqb j i
 
 -- a copy of the broadcast i
 abbrev pub copies : ℕ → Unicast → Bool
@@ -329,9 +329,9 @@ tick_due now h (Retrying at) = lapse_due now h (unsent h.poll_address) false (re
 tick_due now h AwaitingPoll = lapse_due now h (unsent h.poll_address) false Leave
 tick_due now h AwaitingApsAck = lapse_due now h ApsAckTimeout true Leave
 
-abbrev pub drop_due : Opt64 → ℕ → UnicastHead → Due
+abbrev pub drop_due : Option ℕ → ℕ → UnicastHead → Due
 drop_due eui nwk h =
-    pick (is_awaiting h.stage && under eui (Some16 nwk) h.poll_address) (Finish false (unsent h.poll_address)) Leave
+    pick (is_awaiting h.stage && under eui (Some nwk) h.poll_address) (Finish false (unsent h.poll_address)) Leave
 
 abbrev pub copy_due : ℕ → UnicastHead → Due
 copy_due i h = pick (copies_by i h.copy_of) (Finish (is_acking h.stage) Cancelled) Leave
@@ -344,7 +344,7 @@ due_head (CopyOf i) h = copy_due i h
 abbrev pub due_turn : Due → Unicast → Turn Unicast
 due_turn Leave u = Keeps u
 due_turn Requeue u = Keeps (with_stage u Queued)
-due_turn (Finish again f) u = Settles again (Failure f) None16
+due_turn (Finish again f) u = Settles again (Failure f) None
 
 abbrev pub sweep_turn : Which → Unicast → Turn Unicast
 sweep_turn which u = due_turn (due_head which (unicast_head u)) u
@@ -359,23 +359,23 @@ abbrev pub ready : ℕ → Unicast → Bool
 ready now u = ready_head now (unicast_head u)
 
 -- the better of a send and the best of those with a higher id: of higher priority, or else of the lower id
-abbrev pub better_of : UnicastHead → Best → Best
-better_of h NoneReady = Ready h.id h.priority
-better_of h (Ready i p) = pick (ltb (rank_of h.priority) (rank_of p)) (Ready i p) (Ready h.id h.priority)
+abbrev pub better_of : UnicastHead → Option (ℕ × Priority) → Option (ℕ × Priority)
+better_of h None = Some (h.id, h.priority)
+better_of h (Some (i, p)) = pick (ltb (rank_of h.priority) (rank_of p)) (Some (i, p)) (Some (h.id, h.priority))
 
-abbrev pub best_head : ℕ → UnicastHead → Best → Best
+abbrev pub best_head : ℕ → UnicastHead → Option (ℕ × Priority) → Option (ℕ × Priority)
 best_head now h b = pick (ready_head now h) (better_of h b) b
 
 -- the sooner of a send's wake and another: none in the radio; the retry time if sooner than the deadline
 abbrev pub sooner_than : ℕ → ℕ → ℕ
 sooner_than at d = pick (ltb at d) at d
 
-abbrev pub wake_by : ℕ → Opt64 → Stage → Opt64
+abbrev pub wake_by : ℕ → Option ℕ → Stage → Option ℕ
 wake_by d o Queued = sooner d o
 wake_by d o (Transmitting k) = o
 wake_by d o (Retrying at) = sooner (sooner_than at d) o
 wake_by d o AwaitingPoll = sooner d o
 wake_by d o AwaitingApsAck = sooner d o
 
-abbrev pub wake_head : UnicastHead → Opt64 → Opt64
+abbrev pub wake_head : UnicastHead → Option ℕ → Option ℕ
 wake_head h o = wake_by h.deadline o h.stage

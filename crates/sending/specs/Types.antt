@@ -1,10 +1,4 @@
 -- The declared types that the rules of unicasts speak of, under one name.
-pub use Rattle.records.specs.declared.Opt16.{Opt16}
-pub use Rattle.records.specs.declared.Opt16.TheVariants.{None16, Some16}
-pub use Rattle.records.specs.declared.Opt32.{Opt32}
-pub use Rattle.records.specs.declared.Opt32.TheVariants.{None32, Some32}
-pub use Rattle.records.specs.declared.Opt64.{Opt64}
-pub use Rattle.records.specs.declared.Opt64.TheVariants.{None64, Some64}
 pub use Rattle.records.specs.declared.Address.{Address}
 pub use Rattle.records.specs.declared.Address.TheVariants.{Absent, Short, Extended}
 pub use Rattle.records.specs.declared.Priority.{Priority}
@@ -33,7 +27,3 @@ pub use Rattle.sending.specs.declared.Which.{Which}
 pub use Rattle.sending.specs.declared.Which.TheVariants.{Lapsed, Dropped, CopyOf}
 pub use Rattle.sending.specs.declared.Sought.{Sought}
 pub use Rattle.sending.specs.declared.Sought.TheVariants.{Pending, Beside, SentCopy}
-pub use Rattle.sending.specs.declared.Best.{Best}
-pub use Rattle.sending.specs.declared.Best.TheVariants.{NoneReady, Ready}
-pub use Rattle.sending.specs.declared.Loan.{Loan}
-pub use Rattle.sending.specs.declared.Loan.TheVariants.{NoLoan, Lent}

@@ -1,14 +1,14 @@
 // What the rules of unicasts speak of, and no functions: the rules stand in specs/, and what is proved of them alone in proofs/.
 #![tactic(auto)]
 
-use records::{Address, Opt16, Opt64, Priority, Refusal, SendFailure, Unicast, Verdict};
+use records::{Address, Priority, Refusal, SendFailure, Unicast, Verdict};
 
 // What becomes of one send: it stays, it stays and its handoff is told, or it is settled.
 #[derive(Clone, Copy)]
 pub enum UnicastTurn {
     KeepsU(Unicast),
     HandsOffU(Unicast),
-    SettlesU(bool, Verdict, Opt16),
+    SettlesU(bool, Verdict, Option<u16>),
 }
 
 // What a sweep makes of one send: nothing, a retry is queued, or it fails, its handoff told again first or not.
@@ -23,7 +23,7 @@ pub enum Due {
 #[derive(Clone, Copy)]
 pub enum Which {
     Lapsed(u64),
-    Dropped(Opt64, u16),
+    Dropped(Option<u64>, u16),
     CopyOf(u32),
 }
 
@@ -35,20 +35,6 @@ pub enum Sought {
     SentCopy(u32),
 }
 
-// The best of the queued sends, by id, and its priority.
-#[derive(Clone, Copy)]
-pub enum Best {
-    NoneReady,
-    Ready(u32, Priority),
-}
-
-// What goes to the radio: the frame, its next hop, and whether another frame is pending for the device.
-#[derive(Clone, Copy)]
-pub enum Loan {
-    NoLoan,
-    Lent(u32, u16, bool),
-}
-
 // Which source-match set: of short addresses, or of extended ones.
 #[derive(Clone, Copy)]
 pub enum Book {
@@ -56,10 +42,3 @@ pub enum Book {
     Longs,
 }
 
-// What a call on a set answers: why it is refused, that no member is left, or the next one.
-#[derive(Clone, Copy)]
-pub enum Listing {
-    Barred(Refusal),
-    NoMore,
-    NextIs(u64),
-}

@@ -8,7 +8,7 @@ ghost use Rattle.model.specs.Calls.{wake_of};
 ghost use Rattle.model.specs.Sound.{Sound};
 
 use model::{Counts, Sends};
-use records::{Address, Opt64};
+use records::Address;
 
 // Tables with no send; the first id they issue is given.
 pub fn fresh(first: u32) -> Sends
@@ -31,7 +31,7 @@ pub fn fresh(first: u32) -> Sends
 }
 
 // When a tick next has something to do, if ever.
-pub fn next_wake(s: Sends) -> Opt64
+pub fn next_wake(s: Sends) -> Option<u64>
     requires { Sound s }
     ensures { result ≡ wake_of (model_of s) }
 {

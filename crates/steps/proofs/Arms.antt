@@ -1,4 +1,5 @@
 -- What is known of an event where a match has no arm for it: what its body is not, so that its event is Malformed. Assumes nothing.
+use Rattle.std.specs.Prelude.{Option, None, Some}
 use Prim.Native.Nat.{ℕ}
 use mathlib.Core.Path.{◌≡◌, refl}
 use mathlib.Core.Bool.{Bool, true, false}
@@ -6,26 +7,6 @@ use mathlib.Core.List.{List}
 use lib.Dec.{ltb}
 use Rattle.records.specs.Pick.{pick}
 use Rattle.records.specs.declared.Address.TheVariants.{Absent, Short, Extended}
-use Rattle.fields.specs.declared.Read16.{Read16}
-use Rattle.fields.specs.declared.Read16.TheVariants.{Is16, Wrong16}
-use Rattle.fields.specs.declared.Read64.{Read64}
-use Rattle.fields.specs.declared.Read64.TheVariants.{Is64, Wrong64}
-use Rattle.fields.specs.declared.ReadPriority.{ReadPriority}
-use Rattle.fields.specs.declared.ReadPriority.TheVariants.{IsPriority, WrongPriority}
-use Rattle.fields.specs.declared.ReadAddress.{ReadAddress}
-use Rattle.fields.specs.declared.ReadAddress.TheVariants.{IsAddress, WrongAddress}
-use Rattle.fields.specs.declared.ReadKey.{ReadKey}
-use Rattle.fields.specs.declared.ReadKey.TheVariants.{IsKey, WrongKey}
-use Rattle.fields.specs.declared.ReadConfirm.{ReadConfirm}
-use Rattle.fields.specs.declared.ReadConfirm.TheVariants.{IsConfirm, WrongConfirm}
-use Rattle.fields.specs.declared.ReadResult.{ReadResult}
-use Rattle.fields.specs.declared.ReadResult.TheVariants.{IsResult, WrongResult}
-use Rattle.fields.specs.declared.ReadLender.{ReadLender}
-use Rattle.fields.specs.declared.ReadLender.TheVariants.{IsLender, WrongLender}
-use Rattle.fields.specs.declared.ReadSchedule.{ReadSchedule}
-use Rattle.fields.specs.declared.ReadSchedule.TheVariants.{IsSchedule, WrongSchedule}
-use Rattle.events.specs.declared.ReadUnicast.{ReadUnicast}
-use Rattle.events.specs.declared.ReadUnicast.TheVariants.{IsUnicast, WrongUnicast}
 use Rattle.events.specs.declared.Event.{Event}
 use Rattle.fields.specs.Bytes.{number}
 use Rattle.fields.specs.Parts.{priority_by, address_at, key_at, confirm_at, schedule_at, opt16_by, opt64_by, result_by, lender_by}
@@ -35,13 +16,14 @@ use Rattle.events.specs.Routes.{entries_right, route_of}
 use Rattle.events.specs.declared.Event.TheVariants.{OnUnicast, OnCopy, OnUnrouted, OnBroadcast, OnReport, OnPoll, OnAck, OnRoute, OnDrop, OnHasAwaiting, Malformed}
 use Rattle.records.specs.declared.AckKey.{AckKey}
 use Rattle.records.specs.declared.Address.{Address}
-use Rattle.records.specs.declared.Opt16.{Opt16}
-use Rattle.records.specs.declared.Opt64.{Opt64}
 use Rattle.records.specs.declared.TxResult.{TxResult}
 use Rattle.model.specs.declared.NewUnicast.{NewUnicast}
 use Rattle.model.specs.declared.NewUnrouted.{NewUnrouted}
 use Rattle.model.specs.declared.NewBroadcast.{NewBroadcast}
 use Rattle.model.specs.declared.Lender.{Lender}
+use Rattle.records.specs.declared.Priority.{Priority}
+use Rattle.records.specs.declared.Confirm.{Confirm}
+use Rattle.records.specs.declared.Schedule.{Schedule}
 
 -- what the arms before have ruled out of an event, by its kind
 module _ (e : Event) where
@@ -61,7 +43,7 @@ module _ (e : Event) where
   NoReport = (l : Lender) (id f : ℕ) (x : TxResult) (t d : ℕ) → e ≡ OnReport l id f x t d → ⊥
 
   abbrev NoPoll : Type 0
-  NoPoll = (t : ℕ) (x : Opt64) (y : Opt16) → e ≡ OnPoll t x y → ⊥
+  NoPoll = (t : ℕ) (x : Option ℕ) (y : Option ℕ) → e ≡ OnPoll t x y → ⊥
 
   abbrev NoAck : Type 0
   NoAck = (k : AckKey) → e ≡ OnAck k → ⊥
@@ -70,59 +52,59 @@ module _ (e : Event) where
   NoRoute = (t d n : ℕ) → e ≡ OnRoute t d n → ⊥
 
   abbrev NoDrop : Type 0
-  NoDrop = (x : Opt64) (n : ℕ) → e ≡ OnDrop x n → ⊥
+  NoDrop = (x : Option ℕ) (n : ℕ) → e ≡ OnDrop x n → ⊥
 
   abbrev NoAwaiting : Type 0
   NoAwaiting = (a : Address) → e ≡ OnHasAwaiting a → ⊥
 
 -- where a kind's body is not in its form, its event is Malformed
 
-unicast-by : {e : Event} (t : ℕ) (u : ReadUnicast) → e ≡ unicast_event t u → NoUnicast e → unicast_event t u ≡ Malformed
-unicast-by t (IsUnicast u) p h = absurd (h t u p)
-unicast-by t WrongUnicast p h = refl
+unicast-by : {e : Event} (t : ℕ) (u : Option NewUnicast) → e ≡ unicast_event t u → NoUnicast e → unicast_event t u ≡ Malformed
+unicast-by t (Some u) p h = absurd (h t u p)
+unicast-by t None p h = refl
 
-copy-by : {e : Event} (id t : ℕ) (u : ReadUnicast) → e ≡ copy_event id t u → NoCopy e → copy_event id t u ≡ Malformed
-copy-by id t (IsUnicast u) p h = absurd (h _ _ _ p)
-copy-by id t WrongUnicast p h = refl
+copy-by : {e : Event} (id t : ℕ) (u : Option NewUnicast) → e ≡ copy_event id t u → NoCopy e → copy_event id t u ≡ Malformed
+copy-by id t (Some u) p h = absurd (h _ _ _ p)
+copy-by id t None p h = refl
 
-unrouted-by : {e : Event} (t f w d : ℕ) (p : ReadPriority) (c : ReadConfirm) → e ≡ unrouted_with t f w d p c → NoUnrouted e → unrouted_with t f w d p c ≡ Malformed
-unrouted-by t f w d (IsPriority p) (IsConfirm c) q h = absurd (h _ _ q)
-unrouted-by t f w d (IsPriority p) WrongConfirm q h = refl
-unrouted-by t f w d WrongPriority c q h = refl
+unrouted-by : {e : Event} (t f w d : ℕ) (p : Option Priority) (c : Option Confirm) → e ≡ unrouted_with t f w d p c → NoUnrouted e → unrouted_with t f w d p c ≡ Malformed
+unrouted-by t f w d (Some p) (Some c) q h = absurd (h _ _ q)
+unrouted-by t f w d (Some p) None q h = refl
+unrouted-by t f w d None c q h = refl
 
-broadcast-by : {e : Event} (t f w : ℕ) (p : ReadPriority) (s : ReadSchedule) → e ≡ broadcast_with t f w p s → NoBroadcast e → broadcast_with t f w p s ≡ Malformed
-broadcast-by t f w (IsPriority p) (IsSchedule s) q h = absurd (h _ _ q)
-broadcast-by t f w (IsPriority p) WrongSchedule q h = refl
-broadcast-by t f w WrongPriority s q h = refl
+broadcast-by : {e : Event} (t f w : ℕ) (p : Option Priority) (s : Option Schedule) → e ≡ broadcast_with t f w p s → NoBroadcast e → broadcast_with t f w p s ≡ Malformed
+broadcast-by t f w (Some p) (Some s) q h = absurd (h _ _ q)
+broadcast-by t f w (Some p) None q h = refl
+broadcast-by t f w None s q h = refl
 
-report-by : {e : Event} (l : ReadLender) (id f : ℕ) (x : ReadResult) (t d : ℕ) → e ≡ report_with l id f x t d → NoReport e → report_with l id f x t d ≡ Malformed
-report-by (IsLender l) id f (IsResult x) t d p h = absurd (h _ _ _ _ _ _ p)
-report-by (IsLender l) id f WrongResult t d p h = refl
-report-by WrongLender id f x t d p h = refl
+report-by : {e : Event} (l : Option Lender) (id f : ℕ) (x : Option TxResult) (t d : ℕ) → e ≡ report_with l id f x t d → NoReport e → report_with l id f x t d ≡ Malformed
+report-by (Some l) id f (Some x) t d p h = absurd (h _ _ _ _ _ _ p)
+report-by (Some l) id f None t d p h = refl
+report-by None id f x t d p h = refl
 
-poll-by : {e : Event} (t : ℕ) (x : Read64) (y : Read16) → e ≡ poll_with t x y → NoPoll e → poll_with t x y ≡ Malformed
-poll-by t (Is64 e) (Is16 n) p h = absurd (h _ _ _ p)
-poll-by t (Is64 e) Wrong16 p h = refl
-poll-by t Wrong64 y p h = refl
+poll-by : {e : Event} (t : ℕ) (x : Option (Option ℕ)) (y : Option (Option ℕ)) → e ≡ poll_with t x y → NoPoll e → poll_with t x y ≡ Malformed
+poll-by t (Some e) (Some n) p h = absurd (h _ _ _ p)
+poll-by t (Some e) None p h = refl
+poll-by t None y p h = refl
 
-ack-by : {e : Event} (k : ReadKey) → e ≡ ack_event k → NoAck e → ack_event k ≡ Malformed
-ack-by (IsKey k) p h = absurd (h _ p)
-ack-by WrongKey p h = refl
+ack-by : {e : Event} (k : Option AckKey) → e ≡ ack_event k → NoAck e → ack_event k ≡ Malformed
+ack-by (Some k) p h = absurd (h _ p)
+ack-by None p h = refl
 
 route-by : {e : Event} (a b : Bool) (t d n : ℕ) → e ≡ pick a Malformed (pick b (OnRoute t d n) Malformed) → NoRoute e → pick a Malformed (pick b (OnRoute t d n) Malformed) ≡ Malformed
 route-by true b t d n p h = refl
 route-by false true t d n p h = absurd (h _ _ _ p)
 route-by false false t d n p h = refl
 
-drop-by : {e : Event} (x : Read64) (n : ℕ) → e ≡ drop_with x n → NoDrop e → drop_with x n ≡ Malformed
-drop-by (Is64 e) n p h = absurd (h _ _ p)
-drop-by Wrong64 n p h = refl
+drop-by : {e : Event} (x : Option (Option ℕ)) (n : ℕ) → e ≡ drop_with x n → NoDrop e → drop_with x n ≡ Malformed
+drop-by (Some e) n p h = absurd (h _ _ p)
+drop-by None n p h = refl
 
-awaiting-by : {e : Event} (a : ReadAddress) → e ≡ awaiting_event a → NoAwaiting e → awaiting_event a ≡ Malformed
-awaiting-by (IsAddress Absent) p h = refl
-awaiting-by (IsAddress (Short x)) p h = absurd (h _ p)
-awaiting-by (IsAddress (Extended x)) p h = absurd (h _ p)
-awaiting-by WrongAddress p h = refl
+awaiting-by : {e : Event} (a : Option Address) → e ≡ awaiting_event a → NoAwaiting e → awaiting_event a ≡ Malformed
+awaiting-by (Some Absent) p h = refl
+awaiting-by (Some (Short x)) p h = absurd (h _ p)
+awaiting-by (Some (Extended x)) p h = absurd (h _ p)
+awaiting-by None p h = refl
 
 module _ {e : Event} (b : List ℕ) where
   pub unicast-past : e ≡ unicast_of b → NoUnicast e → unicast_of b ≡ Malformed

@@ -1,6 +1,5 @@
 -- What one event of a trace does to the send tables, by cases: the effect of its call, a question's answer, or refusal 14.
-use Rattle.std.specs.Prelude.{ℕ, ◌≡◌, List}
-use Rattle.std.proofs.Math.Option.{Option, none, some}
+use Rattle.std.specs.Prelude.{ℕ, ◌≡◌, List, Option, None, Some}
 use Rattle.rows.specs.Moves.{any_of}
 use Rattle.sending.specs.Rules.{pends}
 use Rattle.unrouted.specs.Rules.{is_held}
@@ -37,34 +36,34 @@ effect_of m s Malformed rs = denied m FieldMalformed
 
 -- the call that it makes, where it makes one alone
 abbrev pub call_for : Settings → Event → List Resolved → Option Call
-call_for s (OnSettings x) rs = none
-call_for s (OnUnicast now u) rs = some (EnqueueUnicast s u now)
-call_for s (OnCopy id now u) rs = some (EnqueueCopy s id u now)
-call_for s (OnUnrouted now u) rs = some (EnqueueUnrouted s u now)
-call_for s (OnBroadcast now u) rs = some (EnqueueBroadcast s u now)
-call_for s (OnDequeue now) rs = some (Dequeue now)
-call_for s (OnReport from id frame x now delay) rs = some (Transmitted from id frame x now delay)
-call_for s (OnPoll now eui nwk) rs = some (Poll eui nwk now)
-call_for s (OnAck k) rs = some (AckReceived k)
-call_for s (OnRetry d) rs = some (RetryDiscovery d)
-call_for s (OnFail d) rs = some (FailUnrouted d)
-call_for s (OnRoute now d n) rs = some (RouteUnicasts s d now n rs)
-call_for s (OnDelivered k) rs = some (Delivered k)
-call_for s (OnDrop eui nwk) rs = some (DropIndirect eui nwk)
-call_for s (OnCancel id) rs = some (Cancel id)
-call_for s (OnTick now) rs = some (Tick now)
-call_for s OnAbandon rs = none
-call_for s OnNextWake rs = none
-call_for s (OnPair eui nwk) rs = none
-call_for s OnLists rs = none
-call_for s (OnHasUnrouted d) rs = some (HasUnrouted d)
-call_for s (OnHasAwaiting a) rs = some (HasAwaiting a)
-call_for s Malformed rs = none
+call_for s (OnSettings x) rs = None
+call_for s (OnUnicast now u) rs = Some (EnqueueUnicast s u now)
+call_for s (OnCopy id now u) rs = Some (EnqueueCopy s id u now)
+call_for s (OnUnrouted now u) rs = Some (EnqueueUnrouted s u now)
+call_for s (OnBroadcast now u) rs = Some (EnqueueBroadcast s u now)
+call_for s (OnDequeue now) rs = Some (Dequeue now)
+call_for s (OnReport from id frame x now delay) rs = Some (Transmitted from id frame x now delay)
+call_for s (OnPoll now eui nwk) rs = Some (Poll eui nwk now)
+call_for s (OnAck k) rs = Some (AckReceived k)
+call_for s (OnRetry d) rs = Some (RetryDiscovery d)
+call_for s (OnFail d) rs = Some (FailUnrouted d)
+call_for s (OnRoute now d n) rs = Some (RouteUnicasts s d now n rs)
+call_for s (OnDelivered k) rs = Some (Delivered k)
+call_for s (OnDrop eui nwk) rs = Some (DropIndirect eui nwk)
+call_for s (OnCancel id) rs = Some (Cancel id)
+call_for s (OnTick now) rs = Some (Tick now)
+call_for s OnAbandon rs = None
+call_for s OnNextWake rs = None
+call_for s (OnPair eui nwk) rs = None
+call_for s OnLists rs = None
+call_for s (OnHasUnrouted d) rs = Some (HasUnrouted d)
+call_for s (OnHasAwaiting a) rs = Some (HasAwaiting a)
+call_for s Malformed rs = None
 
--- a kind that the run does not see to itself: none of settings, abandon, next wake, pair and lists
+-- a kind that the run does not see to itself: None of settings, abandon, next wake, pair and lists
 abbrev pub Plain : ℕ → Type 0
 Plain k = ((((k ≡ 1 → ⊥) × (k ≡ 17 → ⊥)) × (k ≡ 18 → ⊥)) × (k ≡ 19 → ⊥)) × (k ≡ 20 → ⊥)
 
--- and none of 2 to 9
+-- and None of 2 to 9
 abbrev pub Later : ℕ → Type 0
 Later k = (((((((k ≡ 2 → ⊥) × (k ≡ 3 → ⊥)) × (k ≡ 4 → ⊥)) × (k ≡ 5 → ⊥)) × (k ≡ 6 → ⊥)) × (k ≡ 7 → ⊥)) × (k ≡ 8 → ⊥)) × (k ≡ 9 → ⊥)

@@ -6,7 +6,7 @@ ghost use Rattle.rows.specs.Tables.{rows_of, live, Held, Holds, Stands, Entered,
 ghost use Rattle.tables.specs.Layouts.{broadcast_from, BroadcastTagged, broadcast_head, broadcast_table};
 
 use records::{Broadcast, CopyState, Priority, Schedule};
-use rows::{Inserted, Place, Slot};
+use rows::Slot;
 
 // What a scan reads of a record: all but its handles, its handoff and its last error.
 #[derive(Clone, Copy)]
@@ -160,7 +160,7 @@ pub fn store(w: &mut [u64; 112], n: usize, i: usize, u: Broadcast)
 }
 
 // Where the record with that id stands.
-pub fn find(w: &[u64; 112], n: usize, id: u32) -> Place
+pub fn find(w: &[u64; 112], n: usize, id: u32) -> Option<usize>
     requires { Held broadcast_table w.now n }
     ensures { result ≡ place_at (find_by broadcast_id id (live broadcast_table w.now n)) }
 {
@@ -168,19 +168,19 @@ pub fn find(w: &[u64; 112], n: usize, id: u32) -> Place
 }
 
 // The record enters under its id, in the place of the one that has it; with no free place it is refused.
-pub fn insert(w: &mut [u64; 112], n: usize, u: Broadcast) -> Inserted
+pub fn insert(w: &mut [u64; 112], n: usize, u: Broadcast) -> Option<usize>
     requires { Held broadcast_table w.old n }
     ensures { Entered broadcast_table w.old n u w.new result }
 {
     match rows::enter(w, 7, 16, n, u.id as u64) {
-        Slot::Shut => Inserted::Full,
+        Slot::Shut => None,
         Slot::Over(i) => {
             put(w, i, u);
-            Inserted::Holding(n)
+            Some(n)
         }
         Slot::New(i) => {
             put(w, i, u);
-            Inserted::Holding(n + 1)
+            Some(n + 1)
         }
     }
 }

@@ -6,7 +6,7 @@ ghost use Rattle.rows.specs.Tables.{rows_of, live, Held, Holds, Stands, Entered,
 ghost use Rattle.tables.specs.Layouts.{destination_table};
 
 use records::Destination;
-use rows::{Inserted, Place, Slot};
+use rows::Slot;
 
 // The table with no record.
 pub fn fresh() -> [u64; 32]
@@ -46,7 +46,7 @@ pub fn store(w: &mut [u64; 32], n: usize, i: usize, u: Destination)
 }
 
 // Where the record with that address stands.
-pub fn find(w: &[u64; 32], n: usize, address: u16) -> Place
+pub fn find(w: &[u64; 32], n: usize, address: u16) -> Option<usize>
     requires { Held destination_table w.now n }
     ensures { result ≡ place_at (find_by destination_address address (live destination_table w.now n)) }
 {
@@ -54,19 +54,19 @@ pub fn find(w: &[u64; 32], n: usize, address: u16) -> Place
 }
 
 // The record enters under its address, in the place of the one that has it; with no free place it is refused.
-pub fn insert(w: &mut [u64; 32], n: usize, u: Destination) -> Inserted
+pub fn insert(w: &mut [u64; 32], n: usize, u: Destination) -> Option<usize>
     requires { Held destination_table w.old n }
     ensures { Entered destination_table w.old n u w.new result }
 {
     match rows::enter(w, 2, 16, n, u.address as u64) {
-        Slot::Shut => Inserted::Full,
+        Slot::Shut => None,
         Slot::Over(i) => {
             put(w, i, u);
-            Inserted::Holding(n)
+            Some(n)
         }
         Slot::New(i) => {
             put(w, i, u);
-            Inserted::Holding(n + 1)
+            Some(n + 1)
         }
     }
 }

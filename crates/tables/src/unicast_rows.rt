@@ -5,8 +5,8 @@ ghost use Rattle.rows.specs.Lists.{find_by, remove_at, remove_by, place_at};
 ghost use Rattle.rows.specs.Tables.{rows_of, live, Held, Holds, Stands, Entered, Put};
 ghost use Rattle.tables.specs.Layouts.{unicast_from, UnicastTagged, unicast_head, unicast_table};
 
-use records::{Address, Confirm, Opt32, Priority, Stage, Unicast};
-use rows::{Inserted, Place, Slot};
+use records::{Address, Confirm, Priority, Stage, Unicast};
+use rows::Slot;
 
 // What a scan reads of a record: all but its handles, its next hop and what confirms it.
 #[derive(Clone, Copy)]
@@ -16,7 +16,7 @@ pub struct UnicastHead {
     pub priority: Priority,
     pub poll_address: Address,
     pub stage: Stage,
-    pub copy_of: Opt32,
+    pub copy_of: Option<u32>,
 }
 
 // The table with no record.
@@ -180,7 +180,7 @@ pub fn store(w: &mut [u64; 320], n: usize, i: usize, u: Unicast)
 }
 
 // Where the record with that id stands.
-pub fn find(w: &[u64; 320], n: usize, id: u32) -> Place
+pub fn find(w: &[u64; 320], n: usize, id: u32) -> Option<usize>
     requires { Held unicast_table w.now n }
     ensures { result ≡ place_at (find_by unicast_id id (live unicast_table w.now n)) }
 {
@@ -188,19 +188,19 @@ pub fn find(w: &[u64; 320], n: usize, id: u32) -> Place
 }
 
 // The record enters under its id, in the place of the one that has it; with no free place it is refused.
-pub fn insert(w: &mut [u64; 320], n: usize, u: Unicast) -> Inserted
+pub fn insert(w: &mut [u64; 320], n: usize, u: Unicast) -> Option<usize>
     requires { Held unicast_table w.old n }
     ensures { Entered unicast_table w.old n u w.new result }
 {
     match rows::enter(w, 10, 32, n, u.id as u64) {
-        Slot::Shut => Inserted::Full,
+        Slot::Shut => None,
         Slot::Over(i) => {
             put(w, i, u);
-            Inserted::Holding(n)
+            Some(n)
         }
         Slot::New(i) => {
             put(w, i, u);
-            Inserted::Holding(n + 1)
+            Some(n + 1)
         }
     }
 }

@@ -6,7 +6,7 @@ ghost use Rattle.rows.specs.Tables.{rows_of, live, Held, Holds, Stands, Entered,
 ghost use Rattle.tables.specs.Layouts.{unrouted_from, unrouted_head, unrouted_table};
 
 use records::Unrouted;
-use rows::{Inserted, Place, Slot};
+use rows::Slot;
 
 // What a scan reads of a record.
 #[derive(Clone, Copy)]
@@ -105,7 +105,7 @@ pub fn store(w: &mut [u64; 112], n: usize, i: usize, u: Unrouted)
 }
 
 // Where the record with that id stands.
-pub fn find(w: &[u64; 112], n: usize, id: u32) -> Place
+pub fn find(w: &[u64; 112], n: usize, id: u32) -> Option<usize>
     requires { Held unrouted_table w.now n }
     ensures { result ≡ place_at (find_by unrouted_id id (live unrouted_table w.now n)) }
 {
@@ -113,19 +113,19 @@ pub fn find(w: &[u64; 112], n: usize, id: u32) -> Place
 }
 
 // The record enters under its id, in the place of the one that has it; with no free place it is refused.
-pub fn insert(w: &mut [u64; 112], n: usize, u: Unrouted) -> Inserted
+pub fn insert(w: &mut [u64; 112], n: usize, u: Unrouted) -> Option<usize>
     requires { Held unrouted_table w.old n }
     ensures { Entered unrouted_table w.old n u w.new result }
 {
     match rows::enter(w, 7, 16, n, u.id as u64) {
-        Slot::Shut => Inserted::Full,
+        Slot::Shut => None,
         Slot::Over(i) => {
             put(w, i, u);
-            Inserted::Holding(n)
+            Some(n)
         }
         Slot::New(i) => {
             put(w, i, u);
-            Inserted::Holding(n + 1)
+            Some(n + 1)
         }
     }
 }

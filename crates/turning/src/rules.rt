@@ -3,10 +3,7 @@ ghost use Rattle.std.specs.Prelude.{◌≡◌, ◌≤◌};
 ghost use Rattle.records.specs.Limits.{last_time};
 ghost use Rattle.sending.specs.Rules.{turn_u, remade_of, with_stage, stage_for, sent_by, polled_by, deadline_for, admitted_of, is_queued, is_awaiting, is_sending, is_acking, polled_of, keyed_by, ack_turn, hand_off, fail_held, fail_unheld, fail_by, report_sent, report_turn, cancel_turn};
 
-use records::{
-    AckKey, Address, Confirm, Opt16, Opt32, Opt64, Priority, SendFailure, Settings, Stage,
-    TxResult, Unicast, Verdict,
-};
+use records::{AckKey, Address, Confirm, Priority, SendFailure, Settings, Stage, TxResult, Unicast, Verdict};
 use sending::UnicastTurn;
 
 // The send with another priority, count of attempts, stage and deadline.
@@ -50,21 +47,21 @@ fn stage_for(a: Address) -> Stage
     }
 }
 
-fn sent_by(d: u64, given: Opt64) -> u64
+fn sent_by(d: u64, given: Option<u64>) -> u64
     ensures { result ≡ sent_by d given }
 {
     match given {
-        Opt64::None64 => d,
-        Opt64::Some64(t) => t,
+        None => d,
+        Some(t) => t,
     }
 }
 
-fn polled_by(d: u64, given: Opt64) -> u64
+fn polled_by(d: u64, given: Option<u64>) -> u64
     ensures { result ≡ polled_by d given }
 {
     match given {
-        Opt64::None64 => d,
-        Opt64::Some64(t) => {
+        None => d,
+        Some(t) => {
             if t < d {
                 return t;
             }
@@ -73,7 +70,7 @@ fn polled_by(d: u64, given: Opt64) -> u64
     }
 }
 
-fn deadline_for(s: Settings, clock: u64, given: Opt64, a: Address) -> u64
+fn deadline_for(s: Settings, clock: u64, given: Option<u64>, a: Address) -> u64
     requires { clock ≤ last_time }
     ensures { result ≡ deadline_for s clock given a }
 {
@@ -93,10 +90,10 @@ pub fn admitted(
     confirm: Confirm,
     hop: u16,
     address: Address,
-    copy: Opt32,
+    copy: Option<u32>,
     s: Settings,
     clock: u64,
-    given: Opt64,
+    given: Option<u64>,
 ) -> Unicast
     requires { clock ≤ last_time }
     ensures { result ≡ admitted_of id frame waiter priority confirm hop address copy s clock given }
@@ -191,7 +188,7 @@ pub fn cancel_turn(u: Unicast) -> UnicastTurn
     UnicastTurn::SettlesU(
         is_acking(s),
         Verdict::Failure(SendFailure::Cancelled),
-        Opt16::None16,
+        None,
     )
 }
 
@@ -213,11 +210,11 @@ pub fn ack_turn(u: Unicast) -> UnicastTurn
 {
     let s = u.stage;
     match s {
-        Stage::Queued => UnicastTurn::SettlesU(false, Verdict::Success, Opt16::None16),
+        Stage::Queued => UnicastTurn::SettlesU(false, Verdict::Success, None),
         Stage::Transmitting(_) => UnicastTurn::KeepsU(staged(u, Stage::Transmitting(true))),
-        Stage::Retrying(_) => UnicastTurn::SettlesU(false, Verdict::Success, Opt16::None16),
-        Stage::AwaitingPoll => UnicastTurn::SettlesU(false, Verdict::Success, Opt16::None16),
-        Stage::AwaitingApsAck => UnicastTurn::SettlesU(true, Verdict::Success, Opt16::None16),
+        Stage::Retrying(_) => UnicastTurn::SettlesU(false, Verdict::Success, None),
+        Stage::AwaitingPoll => UnicastTurn::SettlesU(false, Verdict::Success, None),
+        Stage::AwaitingApsAck => UnicastTurn::SettlesU(true, Verdict::Success, None),
     }
 }
 
@@ -229,10 +226,10 @@ fn hand_off(u: Unicast, acked: bool, clock: u64) -> UnicastTurn
 {
     let c = u.confirm;
     match c {
-        Confirm::OnHandoff => UnicastTurn::SettlesU(false, Verdict::Success, Opt16::None16),
+        Confirm::OnHandoff => UnicastTurn::SettlesU(false, Verdict::Success, None),
         Confirm::ApsAck(_, wait) => {
             if acked {
-                return UnicastTurn::SettlesU(false, Verdict::Success, Opt16::None16);
+                return UnicastTurn::SettlesU(false, Verdict::Success, None);
             }
             let p = u.priority;
             let d = clock + wait as u64;
@@ -248,7 +245,7 @@ fn fail_held(u: Unicast, code: u16, clock: u64) -> UnicastTurn
     if clock < u.deadline {
         return UnicastTurn::KeepsU(staged(u, Stage::AwaitingPoll));
     }
-    UnicastTurn::SettlesU(false, Verdict::Code(code), Opt16::None16)
+    UnicastTurn::SettlesU(false, Verdict::Code(code), None)
 }
 
 fn fail_unheld(u: Unicast, code: u16, clock: u64, delay: u32) -> UnicastTurn
@@ -256,7 +253,7 @@ fn fail_unheld(u: Unicast, code: u16, clock: u64, delay: u32) -> UnicastTurn
     ensures { turn_u result ≡ fail_unheld u code clock delay }
 {
     if u.attempts_remaining == 0 {
-        return UnicastTurn::SettlesU(false, Verdict::Code(code), Opt16::Some16(u.next_hop));
+        return UnicastTurn::SettlesU(false, Verdict::Code(code), Some(u.next_hop));
     }
     let p = u.priority;
     let at = clock + delay as u64;

@@ -1,23 +1,22 @@
 -- Each contract admits one outcome: any two are equal. (Sweeps and turns: actions, proofs/Ones.) Assumes nothing.
+use Rattle.std.specs.Prelude.{Option}
 use Prim.Native.Nat.{ℕ}
 use native.Mathlib.Omega.{arith}
 use mathlib.Core.Path.{◌≡◌, sym, ap, ap₂, ◌∙◌}
 use mathlib.Core.Bool.{Bool}
 use mathlib.Core.List.{List}
-use mathlib.Core.Option.{Option}
 use Rattle.rows.specs.Moves.{Turn}
 use Rattle.actions.proofs.Ones.{turned-one}
-use Rattle.sending.specs.Types.{Opt16, Opt64, Unicast, Refusal}
-use Rattle.sending.specs.declared.Loan.{Loan}
+use Rattle.sending.specs.Types.{Unicast, Refusal}
 use Rattle.unicasts.specs.declared.Outcome.{Outcome}
 use Rattle.unicasts.specs.declared.Outcome.TheVariants.{Refused, Done}
 use Rattle.unicasts.specs.Calls.{PolledOne, Dequeued, bar_in, AfterCall, Called}
 
 module _ {ws ws₁ ws₂ : List ℕ} {n : ℕ} where
-  pub polled-one : {eui : Opt64} {nwk : Opt16} {now : ℕ} {r₁ r₂ : Bool} → PolledOne eui nwk now ws n ws₁ r₁ → PolledOne eui nwk now ws n ws₂ r₂ → (ws₁ ≡ ws₂) × (r₁ ≡ r₂)
+  pub polled-one : {eui : Option ℕ} {nwk : Option ℕ} {now : ℕ} {r₁ r₂ : Bool} → PolledOne eui nwk now ws n ws₁ r₁ → PolledOne eui nwk now ws n ws₂ r₂ → (ws₁ ≡ ws₂) × (r₁ ≡ r₂)
   polled-one p q = (p.table.is ∙ sym q.table.is, p.answer ∙ sym q.answer)
 
-  pub dequeued-one : {id : ℕ} {r₁ r₂ : Loan} → Dequeued id ws n ws₁ r₁ → Dequeued id ws n ws₂ r₂ → (ws₁ ≡ ws₂) × (r₁ ≡ r₂)
+  pub dequeued-one : {id : ℕ} {r₁ r₂ : Option (ℕ × (ℕ × Bool))} → Dequeued id ws n ws₁ r₁ → Dequeued id ws n ws₂ r₂ → (ws₁ ≡ ws₂) × (r₁ ≡ r₂)
   dequeued-one p q = (p.table.is ∙ sym q.table.is, p.answer ∙ sym q.answer)
 
   pub called-one : {bar : Option Unicast → Option Refusal} {f : Unicast → Turn Unicast} {id m : ℕ} {buf buf₁ buf₂ : List ℕ} {r₁ r₂ : Outcome}

@@ -1,9 +1,9 @@
 -- How the code's steps on the lent table make up each call. Assumes nothing.
+use Rattle.std.specs.Prelude.{Option, None, Some}
 use Prim.Native.Nat.{ℕ, ◌<◌}
 use mathlib.Core.Path.{◌≡◌, refl, sym, ap, ◌∙◌, subst}
 use mathlib.Core.Bool.{Bool}
 use mathlib.Core.List.{List}
-use mathlib.Core.Option.{Option, none, some}
 use Rattle.records.specs.Records.{unicast_entry, unicast_id}
 use Rattle.records.specs.declared.Entry.{Entry}
 use Rattle.rows.specs.Tables.{Held, Stands}
@@ -15,7 +15,6 @@ use Rattle.actions.proofs.Sweeps.{turn-found}
 use Rattle.sending.specs.Types.{Unicast, Refusal}
 use Rattle.sending.specs.declared.UnicastTurn.{UnicastTurn}
 use Rattle.sending.specs.declared.UnicastTurn.TheVariants.{KeepsU, HandsOffU}
-use Rattle.sending.specs.declared.Loan.TheVariants.{Lent}
 use Rattle.unicasts.specs.declared.Outcome.TheVariants.{Refused, Done}
 use Rattle.sending.specs.Rules.{turn_u, beside}
 use Rattle.sending.specs.Lists.{loan_by}
@@ -51,18 +50,18 @@ module _ {ws buf ws' buf' : List ℕ} {n m n' m' : ℕ} where
 -- ---- a call by id
 
 pub refused : {bar : Option Unicast → Option Refusal} {f : Unicast → Turn Unicast} {id n m : ℕ} {ws buf : List ℕ} {o : Option Unicast} (e : Refusal)
-    → first_of (has_id unicast_entry id) (sends ws n) ≡ o → bar o ≡ some e → Called bar f id ws n buf m ws buf (Refused e)
+    → first_of (has_id unicast_entry id) (sends ws n) ≡ o → bar o ≡ Some e → Called bar f id ws n buf m ws buf (Refused e)
 refused {bar} e p q = record { answer = sym (ap bar p ∙ q); tables = (refl, refl) }
 
 pub done : {bar : Option Unicast → Option Refusal} {f : Unicast → Turn Unicast} {id n m n' m' : ℕ} {ws buf ws' buf' : List ℕ} (h : Held unicast_table ws n) (i : ℕ)
-    → first_at (has_id unicast_entry id) (sends ws n) ≡ some i → bar (some (row_at ws i)) ≡ none
+    → first_at (has_id unicast_entry id) (sends ws n) ≡ Some i → bar (Some (row_at ws i)) ≡ None
     → Played unicast_table unicast_entry (f (row_at ws i)) i (row_at ws i) ws n buf m ws' n' buf' m' → Called bar f id ws n buf m ws' buf' (Done n' m')
 done {bar} {f} {id} h i e q p =
     record { answer = sym (ap bar (first-row h (has_id unicast_entry id) i e) ∙ q); tables = turn-found h (has_id unicast_entry id) f i e p }
 
 -- ---- a loan
 
-pub lent_is : (id : ℕ) (us : List Unicast) {o : Option Unicast} {u v : Unicast} {b : Bool} → o ≡ some v → u ≡ v → b ≡ any_of (beside id u.poll_address) us
-    → Lent u.frame u.next_hop b ≡ loan_by id us o
+pub lent_is : (id : ℕ) (us : List Unicast) {o : Option Unicast} {u v : Unicast} {b : Bool} → o ≡ Some v → u ≡ v → b ≡ any_of (beside id u.poll_address) us
+    → Some (u.frame, (u.next_hop, b)) ≡ loan_by id us o
 lent_is id us {o} {u} {v} {b} e p q =
-    ap (λ (c : Bool). Lent u.frame u.next_hop c) q ∙ ap (λ (x : Unicast). loan_by id us (some x)) p ∙ ap (loan_by id us) (sym e)
+    ap (λ (c : Bool). Some (u.frame, (u.next_hop, c))) q ∙ ap (λ (x : Unicast). loan_by id us (Some x)) p ∙ ap (loan_by id us) (sym e)

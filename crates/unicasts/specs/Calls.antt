@@ -1,32 +1,30 @@
 -- What each call on the lent table does: its answer, and every lent word after it.
-use Rattle.std.specs.Prelude.{ℕ, ◌≡◌, Bool, List}
-use Rattle.std.proofs.Math.Option.{Option, none, some}
+use Rattle.std.specs.Prelude.{ℕ, ◌≡◌, Bool, List, Option, None, Some}
 use Rattle.records.specs.Records.{unicast_entry}
 use Rattle.rows.specs.Tables.{live, Holds}
 use Rattle.rows.specs.Moves.{Turn, first_of, any_of, at_first, has_id}
 use Rattle.tables.specs.Layouts.{unicast_table}
 use Rattle.actions.specs.Calls.{Turned}
-use Rattle.sending.specs.Types.{Opt16, Opt64, Unicast, Refusal}
-use Rattle.sending.specs.declared.Loan.{Loan}
+use Rattle.sending.specs.Types.{Unicast, Refusal}
 use Rattle.unicasts.specs.declared.Outcome.{Outcome}
 use Rattle.unicasts.specs.declared.Outcome.TheVariants.{Refused, Done}
 use Rattle.sending.specs.Rules.{awaits, poll_turn, lend_turn}
 use Rattle.sending.specs.Lists.{loan_of}
 
 -- the first that awaits the poll has its turn, and the answer is whether there is one
-pub record PolledOne (eui : Opt64) (nwk : Opt16) (now : ℕ) (ws : List ℕ) (n : ℕ) (ws' : List ℕ) (r : Bool) : Type 0 where
+pub record PolledOne (eui : Option ℕ) (nwk : Option ℕ) (now : ℕ) (ws : List ℕ) (n : ℕ) (ws' : List ℕ) (r : Bool) : Type 0 where
   pub answer : r ≡ any_of (awaits eui nwk now) (live unicast_table ws n)
   pub table : Holds unicast_table ws' n (at_first (awaits eui nwk now) poll_turn (live unicast_table ws n))
 
 -- the send with that id is lent to the radio
-pub record Dequeued (id : ℕ) (ws : List ℕ) (n : ℕ) (ws' : List ℕ) (r : Loan) : Type 0 where
+pub record Dequeued (id : ℕ) (ws : List ℕ) (n : ℕ) (ws' : List ℕ) (r : Option (ℕ × (ℕ × Bool))) : Type 0 where
   pub answer : r ≡ loan_of id (live unicast_table ws n)
   pub table : Holds unicast_table ws' n (at_first (has_id unicast_entry id) lend_turn (live unicast_table ws n))
 
 -- a call by id: what bars it
 abbrev pub bar_in : Outcome → Option Refusal
-bar_in (Refused e) = some e
-bar_in (Done n m) = none
+bar_in (Refused e) = Some e
+bar_in (Done n m) = None
 
 -- refused, every lent word stays; else the send with that id has its turn
 abbrev pub AfterCall : (Unicast → Turn Unicast) → ℕ → List ℕ → ℕ → List ℕ → ℕ → List ℕ → List ℕ → Outcome → Type 0

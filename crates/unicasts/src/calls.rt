@@ -13,9 +13,8 @@ ghost use Rattle.sending.specs.Lists.{report_bar, cancel_bar};
 ghost use Rattle.unicasts.specs.Calls.{PolledOne, Dequeued, Called};
 
 use crate::{Counts, Outcome};
-use records::{AckKey, Opt16, Opt64, Refusal, Stage, TxResult, Unicast, Verdict};
-use rows::{Inserted, Place};
-use sending::{Due, Loan, UnicastTurn, Which};
+use records::{AckKey, Refusal, Stage, TxResult, Unicast, Verdict};
+use sending::{Due, UnicastTurn, Which};
 
 // The send at place i is taken out, and told as over.
 fn finish(
@@ -26,7 +25,7 @@ fn finish(
     i: usize,
     again: bool,
     v: Verdict,
-    hop: Opt16,
+    hop: Option<u16>,
 ) -> usize
     requires held { Held unicast_table w.old n }
     requires i_lt_n { i < n }
@@ -82,7 +81,7 @@ fn play(
 }
 
 // A send enters under its id.
-pub fn enqueue(w: &mut [u64; 320], n: usize, u: Unicast) -> Inserted
+pub fn enqueue(w: &mut [u64; 320], n: usize, u: Unicast) -> Option<usize>
     requires { Held unicast_table w.old n }
     ensures { Entered unicast_table w.old n u w.new result }
 {
@@ -90,13 +89,13 @@ pub fn enqueue(w: &mut [u64; 320], n: usize, u: Unicast) -> Inserted
 }
 
 // A device polls: its oldest frame is queued ahead of everything else.
-pub fn poll(w: &mut [u64; 320], n: usize, eui: Opt64, nwk: Opt16, clock: u64) -> bool
+pub fn poll(w: &mut [u64; 320], n: usize, eui: Option<u64>, nwk: Option<u16>, clock: u64) -> bool
     requires { Held unicast_table w.old n }
     ensures { PolledOne eui nwk clock w.old n w.new result }
 {
     match scanning::asks::first_awaited(w, n, eui, nwk, clock) {
-        Place::Nowhere => false,
-        Place::Here(i) => {
+        None => false,
+        Some(i) => {
             let u = tables::unicast_rows::load(w, i);
             let v = turning::rules::polled(u);
             tables::unicast_rows::store(w, n, i, v);
@@ -106,19 +105,19 @@ pub fn poll(w: &mut [u64; 320], n: usize, eui: Opt64, nwk: Opt16, clock: u64) ->
 }
 
 // The send with that id goes to the radio.
-pub fn dequeue(w: &mut [u64; 320], n: usize, id: u32) -> Loan
+pub fn dequeue(w: &mut [u64; 320], n: usize, id: u32) -> Option<(u32, u16, bool)>
     requires { Held unicast_table w.old n }
     ensures { Dequeued id w.old n w.new result }
 {
     match tables::unicast_rows::find(w, n, id) {
-        Place::Nowhere => Loan::NoLoan,
-        Place::Here(i) => {
+        None => None,
+        Some(i) => {
             let u = tables::unicast_rows::load(w, i);
             let a = u.poll_address;
             let pending = scanning::asks::frame_pending(w, n, id, a);
             let v = turning::rules::staged(u, Stage::Transmitting(false));
             tables::unicast_rows::store(w, n, i, v);
-            Loan::Lent(u.frame, u.next_hop, pending)
+            Some((u.frame, u.next_hop, pending))
         }
     }
 }
@@ -130,8 +129,8 @@ pub fn ack(w: &mut [u64; 320], n: usize, told: &mut [u64; 560], m: usize, key: A
     ensures { Turned unicast_table unicast_entry (keyed key) ack_turn w.old n told.old m w.new result.sends told.new result.told }
 {
     match scanning::asks::first_keyed(w, n, key) {
-        Place::Nowhere => Counts { sends: n, told: m },
-        Place::Here(i) => {
+        None => Counts { sends: n, told: m },
+        Some(i) => {
             let u = tables::unicast_rows::load(w, i);
             let t = turning::rules::ack_turn(u);
             play(w, n, told, m, i, u, t)
@@ -157,8 +156,8 @@ pub fn report(
     ensures { Called (report_bar frame) (report_turn res clock delay) id w.old n told.old m w.new told.new result }
 {
     match tables::unicast_rows::find(w, n, id) {
-        Place::Nowhere => Outcome::Refused(Refusal::NoSuchSend),
-        Place::Here(i) => {
+        None => Outcome::Refused(Refusal::NoSuchSend),
+        Some(i) => {
             let u = tables::unicast_rows::load(w, i);
             let s = u.stage;
             if turning::rules::is_sending(s) {
@@ -181,8 +180,8 @@ pub fn cancel(w: &mut [u64; 320], n: usize, told: &mut [u64; 560], m: usize, id:
     ensures { Called cancel_bar cancel_turn id w.old n told.old m w.new told.new result }
 {
     match tables::unicast_rows::find(w, n, id) {
-        Place::Nowhere => Outcome::Refused(Refusal::NoSuchSend),
-        Place::Here(i) => {
+        None => Outcome::Refused(Refusal::NoSuchSend),
+        Some(i) => {
             let u = tables::unicast_rows::load(w, i);
             let s = u.stage;
             if turning::rules::is_sending(s) {
@@ -225,7 +224,7 @@ fn sweep(w: &mut [u64; 320], sends: usize, told: &mut [u64; 560], at: usize, whi
                 i = i + 1;
             }
             Due::Finish(again, f) => {
-                m = finish(w, n, told, m, i, again, Verdict::Failure(f), Opt16::None16);
+                m = finish(w, n, told, m, i, again, Verdict::Failure(f), None);
                 n = n - 1;
             }
         }
@@ -251,7 +250,7 @@ pub fn drop_indirect(
     n: usize,
     told: &mut [u64; 560],
     m: usize,
-    eui: Opt64,
+    eui: Option<u64>,
     nwk: u16,
 ) -> Counts
     requires held { Held unicast_table w.old n }

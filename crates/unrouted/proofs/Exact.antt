@@ -1,11 +1,11 @@
 -- What a reader may take from the rules of unrouted sends: when 4 and 9 are given, which send a route takes, and that no send is lost. Assumes nothing.
+use Rattle.std.specs.Prelude.{None, Some}
 use Prim.Native.Nat.{ℕ, ◌+◌, ◌≤◌}
 use native.Mathlib.Omega.{arith}
 use mathlib.Core.Path.{◌≡◌, refl, sym, ap}
 use mathlib.Core.Bool.{Bool, true, false, not, ◌&&◌, ◌||◌}
 use mathlib.Core.List.{List, [], ◌∷◌}
 use mathlib.Core.Logic.{◌⊎◌, inl, inr}
-use mathlib.Core.Option.{none, some}
 use lib.ListN.{length}
 use lib.Dec.{ltb, leb, eqb}
 use borrow.Author.Tests.{leb-true}
@@ -38,11 +38,11 @@ no-room-means u us hs e = sends (leb 16 (length us)) refl e
 
 -- ---- 9, exactly: the destination is not held
 
-looked : (d : ℕ) (hs : List Destination) → is_held d hs ≡ false → lookup destination_address d hs ≡ none
+looked : (d : ℕ) (hs : List Destination) → is_held d hs ≡ false → lookup destination_address d hs ≡ None
 looked d [] e = refl
 looked d (h ∷ hs) e = go (eqb h.address d) e (looked d hs)
   where
-    go : (b : Bool) → pick b true (is_held d hs) ≡ false → (is_held d hs ≡ false → lookup destination_address d hs ≡ none) → pick b (some h) (lookup destination_address d hs) ≡ none
+    go : (b : Bool) → pick b true (is_held d hs) ≡ false → (is_held d hs ≡ false → lookup destination_address d hs ≡ None) → pick b (Some h) (lookup destination_address d hs) ≡ None
     go true e ih = never (sym e)
     go false e ih = ih e
 
@@ -57,14 +57,14 @@ nine-means d us (h ∷ hs) e = go (eqb h.address d) e (nine-means d us hs)
     some-held true e = let z : ◌≡◌ {A = ℕ} 0 1 = cc in omega arith
     some-held false e = let z : ◌≡◌ {A = ℕ} 0 1 = cc in omega arith
 
-    go : (b : Bool) → retry_by (any_of (goes_to d) us) (pick b (some h) (lookup destination_address d hs)) ≡ NotHeld
+    go : (b : Bool) → retry_by (any_of (goes_to d) us) (pick b (Some h) (lookup destination_address d hs)) ≡ NotHeld
         → (retry_by (any_of (goes_to d) us) (lookup destination_address d hs) ≡ NotHeld → is_held d hs ≡ false) → pick b true (is_held d hs) ≡ false
     go true e ih = absurd (some-held (any_of (goes_to d) us && ltb 0 h.retries) e)
     go false e ih = ih e
 
 -- ---- a route takes the oldest send to its destination
 
-pub takes-oldest : (d lo : ℕ) (us : List Unrouted) (u : Unrouted) → Rising unrouted_id lo us → first_of (goes_to d) us ≡ some u
+pub takes-oldest : (d lo : ℕ) (us : List Unrouted) (u : Unrouted) → Rising unrouted_id lo us → first_of (goes_to d) us ≡ Some u
     → All (λ (v : Unrouted). goes_to d v ≡ true → u.id ≤ v.id) us
 takes-oldest d lo us u r e = first-oldest unrouted_id (goes_to d) lo us u r e
 

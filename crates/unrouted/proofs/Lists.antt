@@ -1,10 +1,10 @@
 -- What the code's tests and searches say of enqueueing, retrying and taking. Assumes nothing.
+use Rattle.std.specs.Prelude.{Option, None, Some, option_map}
 use Prim.Native.Nat.{ℕ, suc, ◌≤◌, ◌<◌}
 use native.Mathlib.Omega.{arith}
 use mathlib.Core.Path.{◌≡◌, refl, sym, ap, ap₂, ◌∙◌}
 use mathlib.Core.Bool.{Bool, true, false, not, ◌&&◌, ◌||◌}
 use mathlib.Core.List.{List, [], ◌∷◌}
-use mathlib.Core.Option.{Option, none, some, map}
 use lib.ListN.{length}
 use lib.Dec.{ltb, leb}
 use borrow.Author.Tests.{le-leb, lt-leb, lt-ltb, le-ltb}
@@ -12,7 +12,7 @@ use Rattle.records.specs.Pick.{pick}
 use Rattle.records.specs.Records.{unrouted_id, destination_address}
 use Rattle.rows.specs.Lists.{insert_by, remove_at, lookup}
 use Rattle.rows.specs.Moves.{first_at, any_of}
-use Rattle.unrouted.specs.Types.{Unrouted, Destination, NoRoom, Entered, NotHeld, Declined, Granted}
+use Rattle.unrouted.specs.Types.{Unrouted, Destination, NotHeld, Declined, Granted}
 use Rattle.unrouted.specs.Rules.{goes_to, is_held, holding, no_room, enqueue_of, retry_by, retry_of, drop_first}
 
 -- ---- an enqueue
@@ -34,37 +34,37 @@ module _ (u : Unrouted) (us : List Unrouted) (hs : List Destination) where
     pub room-new : is_held u.destination hs ≡ false → length hs < 16 → no_room u us hs ≡ false
     room-new e m = open-sends ∙ ap₂ (λ (b c : Bool). not b && c) e (lt-leb 16 (length hs) m)
 
-  pub refused : (attempts : ℕ) → no_room u us hs ≡ true → NoRoom ≡ enqueue_of attempts u us hs
+  pub refused : (attempts : ℕ) → no_room u us hs ≡ true → None ≡ enqueue_of attempts u us hs
   refused attempts e =
-      sym (ap (λ (b : Bool). pick b NoRoom (Entered (length (insert_by unrouted_id u us)) (length (holding attempts u.destination hs)))) e)
+      sym (ap (λ (b : Bool). pick b None (Some ((length (insert_by unrouted_id u us)), (length (holding attempts u.destination hs))))) e)
 
   pub granted : (attempts : ℕ) {n k : ℕ} → no_room u us hs ≡ false → n ≡ length (insert_by unrouted_id u us) → k ≡ length (holding attempts u.destination hs)
-      → Entered n k ≡ enqueue_of attempts u us hs
+      → Some (n, k) ≡ enqueue_of attempts u us hs
   granted attempts e p q =
-      ap₂ Entered p q ∙ sym (ap (λ (b : Bool). pick b NoRoom (Entered (length (insert_by unrouted_id u us)) (length (holding attempts u.destination hs)))) e)
+      ap₂ Some (p, q) ∙ sym (ap (λ (b : Bool). pick b None (Some ((length (insert_by unrouted_id u us)), (length (holding attempts u.destination hs))))) e)
 
 -- ---- a retry
 
 module _ (d : ℕ) (us : List Unrouted) (hs : List Destination) where
-  pub not-held : lookup destination_address d hs ≡ none → NotHeld ≡ retry_of d us hs
+  pub not-held : lookup destination_address d hs ≡ None → NotHeld ≡ retry_of d us hs
   not-held e = sym (ap (retry_by (any_of (goes_to d) us)) e)
 
-  by : (h : Destination) (b c : Bool) → lookup destination_address d hs ≡ some h → any_of (goes_to d) us ≡ b → ltb 0 h.retries ≡ c
+  by : (h : Destination) (b c : Bool) → lookup destination_address d hs ≡ Some h → any_of (goes_to d) us ≡ b → ltb 0 h.retries ≡ c
       → pick (b && c) Granted Declined ≡ retry_of d us hs
   by h b c e p q =
       sym (ap (retry_by (any_of (goes_to d) us)) e ∙ ap₂ (λ (x y : Bool). pick (x && y) Granted Declined) p q)
 
-  pub none_left : (h : Destination) → lookup destination_address d hs ≡ some h → h.retries ≡ 0 → Declined ≡ retry_of d us hs
+  pub none_left : (h : Destination) → lookup destination_address d hs ≡ Some h → h.retries ≡ 0 → Declined ≡ retry_of d us hs
   none_left h e z = never (any_of (goes_to d) us) ∙ by h (any_of (goes_to d) us) false e refl (le-ltb 0 h.retries (omega arith))
     where
       never : (b : Bool) → Declined ≡ pick (b && false) Granted Declined
       never true = refl
       never false = refl
 
-  pub none-waits : (h : Destination) → lookup destination_address d hs ≡ some h → any_of (goes_to d) us ≡ false → Declined ≡ retry_of d us hs
+  pub none-waits : (h : Destination) → lookup destination_address d hs ≡ Some h → any_of (goes_to d) us ≡ false → Declined ≡ retry_of d us hs
   none-waits h e w = by h false (ltb 0 h.retries) e w refl
 
-  pub spends : (h : Destination) → lookup destination_address d hs ≡ some h → any_of (goes_to d) us ≡ true → (h.retries ≡ 0 → ⊥) → Granted ≡ retry_of d us hs
+  pub spends : (h : Destination) → lookup destination_address d hs ≡ Some h → any_of (goes_to d) us ≡ true → (h.retries ≡ 0 → ⊥) → Granted ≡ retry_of d us hs
   spends h e w z = by h true true e w (lt-ltb 0 h.retries (above h.retries z))
     where
       above : (n : ℕ) → (n ≡ 0 → ⊥) → 0 < n
@@ -72,14 +72,14 @@ module _ (d : ℕ) (us : List Unrouted) (hs : List Destination) where
 
 -- ---- a take
 
-pub drops : (q : Unrouted → Bool) (us : List Unrouted) (i : ℕ) → first_at q us ≡ some i → drop_first q us ≡ remove_at i us
+pub drops : (q : Unrouted → Bool) (us : List Unrouted) (i : ℕ) → first_at q us ≡ Some i → drop_first q us ≡ remove_at i us
 drops q [] i e = refl
 drops q (u ∷ us) i e = go (q u) (first_at q us) (drops q us) refl e
   where
-    go : (b : Bool) (o : Option ℕ) → ((j : ℕ) → first_at q us ≡ some j → drop_first q us ≡ remove_at j us) → first_at q us ≡ o
-        → pick b (some 0) (map suc o) ≡ some i → pick b us (u ∷ drop_first q us) ≡ remove_at i (u ∷ us)
+    go : (b : Bool) (o : Option ℕ) → ((j : ℕ) → first_at q us ≡ Some j → drop_first q us ≡ remove_at j us) → first_at q us ≡ o
+        → pick b (Some 0) (option_map suc o) ≡ Some i → pick b us (u ∷ drop_first q us) ≡ remove_at i (u ∷ us)
     go true o r f e = let z : 0 ≡ i = cc in ap (λ (j : ℕ). remove_at j (u ∷ us)) z
-    go false none r f e = let z : ◌≡◌ {A = ℕ} 0 1 = cc in absurd (omega arith)
-    go false (some j) r f e =
+    go false None r f e = let z : ◌≡◌ {A = ℕ} 0 1 = cc in absurd (omega arith)
+    go false (Some j) r f e =
         let z : suc j ≡ i = cc in
         ap (λ (l : List Unrouted). u ∷ l) (r j f) ∙ ap (λ (k : ℕ). remove_at k (u ∷ us)) z

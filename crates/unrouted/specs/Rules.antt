@@ -1,6 +1,5 @@
 -- 01's rules of unrouted sends, on one send and on the lists of sends and of held destinations.
-use Rattle.std.specs.Prelude.{ℕ, ◌+◌, ◌-◌, Bool, false, not, ◌&&◌, ◌||◌, List, [], ◌∷◌, length, ltb, leb, eqb}
-use Rattle.std.proofs.Math.Option.{Option, none, some}
+use Rattle.std.specs.Prelude.{ℕ, ◌+◌, ◌-◌, Bool, false, not, ◌&&◌, ◌||◌, List, [], ◌∷◌, length, ltb, leb, eqb, Option, None, Some}
 use Rattle.records.specs.Pick.{pick, bit}
 use Rattle.records.specs.Limits.{unrouted_room, destination_room}
 use Rattle.records.specs.Records.{unrouted_id, destination_address}
@@ -9,7 +8,7 @@ use Rattle.rows.specs.Lists.{fold, insert_by, lookup}
 use Rattle.rows.specs.Moves.{Turn, at_first, any_of, first_of}
 use Rattle.rows.specs.Moves.Turn.{Keeps, Settles}
 use Rattle.tables.specs.Layouts.{unrouted_head}
-use Rattle.unrouted.specs.Types.{None16, Opt64, None64, Priority, Confirm, Unrouted, UnroutedHead, Destination, SendFailure, HandoffTimeout, RouteDiscoveryTimeout, Cancelled, Failure, Which, Lapsed, Bound, Entering, NoRoom, Entered, Retry, NotHeld, Declined, Granted, NextSend, Nothing, Took}
+use Rattle.unrouted.specs.Types.{Priority, Confirm, Unrouted, UnroutedHead, Destination, SendFailure, HandoffTimeout, RouteDiscoveryTimeout, Cancelled, Failure, Which, Lapsed, Bound, Retry, NotHeld, Declined, Granted}
 
 -- ---- on one send
 
@@ -31,10 +30,10 @@ failure_of (Lapsed now) = HandoffTimeout
 failure_of (Bound d) = RouteDiscoveryTimeout
 
 abbrev pub sweep_turn : Which → Unrouted → Turn Unrouted
-sweep_turn which u = pick (chosen which u) (Settles false (Failure (failure_of which)) None16) (Keeps u)
+sweep_turn which u = pick (chosen which u) (Settles false (Failure (failure_of which)) None) (Keeps u)
 
 abbrev pub cancel_turn : Unrouted → Turn Unrouted
-cancel_turn u = Settles false (Failure Cancelled) None16
+cancel_turn u = Settles false (Failure Cancelled) None
 
 -- it goes to that destination; and would still be there after a tick
 abbrev pub goes_to : ℕ → Unrouted → Bool
@@ -49,8 +48,8 @@ left_head d now h = bit (pick (eqb h.destination d) (ltb now h.deadline) false)
 -- ---- on the lists
 
 -- next wake: the least deadline
-abbrev pub wake_of : List Unrouted → Opt64
-wake_of us = fold (λ (u : Unrouted) (o : Opt64). sooner u.deadline o) None64 us
+abbrev pub wake_of : List Unrouted → Option ℕ
+wake_of us = fold (λ (u : Unrouted) (o : Option ℕ). sooner u.deadline o) None us
 
 -- the sends without the first that has the test
 abbrev pub drop_first : (Unrouted → Bool) → List Unrouted → List Unrouted
@@ -58,11 +57,11 @@ drop_first q [] = []
 drop_first q (u ∷ us) = pick (q u) us (u ∷ drop_first q us)
 
 -- the next send that a route takes
-abbrev pub took_of : Option Unrouted → NextSend
-took_of none = Nothing
-took_of (some u) = Took u
+abbrev pub took_of : Option Unrouted → Option Unrouted
+took_of None = None
+took_of (Some u) = Some u
 
-abbrev pub take_of : ℕ → List Unrouted → NextSend
+abbrev pub take_of : ℕ → List Unrouted → Option Unrouted
 take_of d us = took_of (first_of (goes_to d) us)
 
 -- a destination is held
@@ -80,14 +79,14 @@ holding attempts d hs = pick (is_held d hs) hs (insert_by destination_address (n
 abbrev pub no_room : Unrouted → List Unrouted → List Destination → Bool
 no_room u us hs = leb unrouted_room (length us) || (not (is_held u.destination hs) && leb destination_room (length hs))
 
-abbrev pub enqueue_of : ℕ → Unrouted → List Unrouted → List Destination → Entering
+abbrev pub enqueue_of : ℕ → Unrouted → List Unrouted → List Destination → Option (ℕ × ℕ)
 enqueue_of attempts u us hs =
-    pick (no_room u us hs) NoRoom (Entered (length (insert_by unrouted_id u us)) (length (holding attempts u.destination hs)))
+    pick (no_room u us hs) None (Some ((length (insert_by unrouted_id u us)), (length (holding attempts u.destination hs))))
 
 -- a retry: refused where the destination is not held; yes and one less if its count is above 0 and a send waits; otherwise no
 abbrev pub retry_by : Bool → Option Destination → Retry
-retry_by waits none = NotHeld
-retry_by waits (some h) = pick (waits && ltb 0 h.retries) Granted Declined
+retry_by waits None = NotHeld
+retry_by waits (Some h) = pick (waits && ltb 0 h.retries) Granted Declined
 
 abbrev pub retry_of : ℕ → List Unrouted → List Destination → Retry
 retry_of d us hs = retry_by (any_of (goes_to d) us) (lookup destination_address d hs)

@@ -1,10 +1,9 @@
 // The rules of unicasts with no route yet: on one send, and on the two lent tables of sends and of held destinations.
 #![tactic(auto)]
 
-ghost use Rattle.std.specs.Prelude.{◌≡◌, true, false, ◌+◌, ◌*◌, ◌-◌, ◌≤◌, ◌<◌, get_or};
+ghost use Rattle.std.specs.Prelude.{◌≡◌, true, false, ◌+◌, ◌*◌, ◌-◌, ◌≤◌, ◌<◌, get_or, None};
 ghost use Rattle.records.specs.Limits.{last_time};
 ghost use Rattle.records.specs.Records.{unrouted_id, unrouted_entry, blank_unrouted, blank_destination, destination_address};
-ghost use Rattle.records.specs.declared.Opt16.TheVariants.{None16};
 ghost use Rattle.records.specs.declared.Verdict.TheVariants.{Failure};
 ghost use Rattle.rows.specs.Lists.{insert_by, place_at};
 ghost use Rattle.rows.specs.Tables.{rows_of, live, Held, Holds};
@@ -15,8 +14,7 @@ ghost use Rattle.actions.specs.Calls.{Swept, Turned, Played};
 ghost use Rattle.unrouted.specs.Rules.{admitted_of, chosen_head, failure_of, sweep_turn, cancel_turn, goes_to, left_to, left_head, wake_of, is_held, newly_held};
 ghost use Rattle.unrouted.specs.Calls.{Enqueued, Retried, FailedAll, Taken, Abandoned};
 
-use records::{Confirm, Destination, Opt16, Opt64, Priority, SendFailure, Unrouted, Verdict};
-use rows::{Inserted, Place};
+use records::{Confirm, Destination, Priority, SendFailure, Unrouted, Verdict};
 use tables::unrouted_rows::UnroutedHead;
 
 // The sends that a sweep settles: those whose deadline has come by a time, or those to a destination.
@@ -41,26 +39,12 @@ pub struct Failed {
     pub told: usize,
 }
 
-// No free place, or how many sends and destinations there are then.
-#[derive(Clone, Copy)]
-pub enum Entering {
-    NoRoom,
-    Entered(usize, usize),
-}
-
 // What a lapsed discovery is answered.
 #[derive(Clone, Copy)]
 pub enum Retry {
     NotHeld,
     Declined,
     Granted,
-}
-
-// The next send that a route takes.
-#[derive(Clone, Copy)]
-pub enum NextSend {
-    Nothing,
-    Took(Unrouted),
 }
 
 // ---- on one send
@@ -122,11 +106,11 @@ fn drop_at(
     requires held { Held unrouted_table w.old n }
     requires i_lt_n { i < n }
     requires m_bound { m < 112 }
-    ensures { Played unrouted_table unrouted_entry (Settles false (Failure f) None16) i (get_or (rows_of unrouted_table w.old) i blank_unrouted) w.old n told.old m w.new (n - 1) told.new result }
+    ensures { Played unrouted_table unrouted_entry (Settles false (Failure f) None) i (get_or (rows_of unrouted_table w.old) i blank_unrouted) w.old n told.old m w.new (n - 1) told.new result }
 {
     let u = tables::unrouted_rows::load(w, i);
     let e = records::blanks::unrouted_entry(u);
-    let next = actions::settle(told, m, e, Verdict::Failure(f), Opt16::None16);
+    let next = actions::settle(told, m, e, Verdict::Failure(f), None);
     tables::unrouted_rows::remove_at(w, n, i);
     next
 }
@@ -158,7 +142,7 @@ pub fn sweep(
 }
 
 // Where the oldest send to a destination stands.
-pub fn first_to(w: &[u64; 112], n: usize, destination: u16) -> Place
+pub fn first_to(w: &[u64; 112], n: usize, destination: u16) -> Option<usize>
     requires { Held unrouted_table w.now n }
     ensures { result ≡ place_at (first_at (goes_to destination) (live unrouted_table w.now n)) }
 {
@@ -168,11 +152,11 @@ pub fn first_to(w: &[u64; 112], n: usize, destination: u16) -> Place
             tables::unrouted_rows::head(w, at),
             Which::Bound(destination),
         ) {
-            return Place::Here(at);
+            return Some(at);
         }
         at = at + 1;
     }
-    Place::Nowhere
+    None
 }
 
 // Whether a send waits for a destination's route.
@@ -181,8 +165,8 @@ pub fn waits(w: &[u64; 112], n: usize, destination: u16) -> bool
     ensures { result ≡ any_of (goes_to destination) (live unrouted_table w.now n) }
 {
     match first_to(w, n, destination) {
-        Place::Here(_) => true,
-        Place::Nowhere => false,
+        Some(_) => true,
+        None => false,
     }
 }
 
@@ -212,11 +196,11 @@ pub fn left_to(w: &[u64; 112], n: usize, destination: u16, clock: u64) -> usize
 }
 
 // The least deadline.
-pub fn next_wake(w: &[u64; 112], n: usize) -> Opt64
+pub fn next_wake(w: &[u64; 112], n: usize) -> Option<u64>
     requires { Held unrouted_table w.now n }
     ensures { result ≡ wake_of (live unrouted_table w.now n) }
 {
-    let mut wake = Opt64::None64;
+    let mut wake = None;
     let mut i = n;
     while 0 < i {
         let h = tables::unrouted_rows::head(w, i - 1);
@@ -227,16 +211,16 @@ pub fn next_wake(w: &[u64; 112], n: usize) -> Opt64
 }
 
 // Takes the oldest send to a destination out, for a route to go on with.
-pub fn take(w: &mut [u64; 112], n: usize, destination: u16) -> NextSend
+pub fn take(w: &mut [u64; 112], n: usize, destination: u16) -> Option<Unrouted>
     requires { Held unrouted_table w.old n }
     ensures { Taken destination w.old n w.new result }
 {
     match first_to(w, n, destination) {
-        Place::Nowhere => NextSend::Nothing,
-        Place::Here(i) => {
+        None => None,
+        Some(i) => {
             let u = tables::unrouted_rows::load(w, i);
             tables::unrouted_rows::remove_at(w, n, i);
-            NextSend::Took(u)
+            Some(u)
         }
     }
 }
@@ -248,8 +232,8 @@ pub fn cancel(w: &mut [u64; 112], n: usize, told: &mut [u64; 560], m: usize, id:
     ensures { Turned unrouted_table unrouted_entry (has_id unrouted_entry id) cancel_turn w.old n told.old m w.new result.sends told.new result.told }
 {
     match tables::unrouted_rows::find(w, n, id) {
-        Place::Nowhere => Counts { sends: n, told: m },
-        Place::Here(i) => {
+        None => Counts { sends: n, told: m },
+        Some(i) => {
             let next = drop_at(w, n, told, m, i, SendFailure::Cancelled);
             Counts {
                 sends: n - 1,
@@ -266,8 +250,8 @@ pub fn is_held(d: &[u64; 32], k: usize, destination: u16) -> bool
     ensures { result ≡ is_held destination (live destination_table d.now k) }
 {
     match tables::destination_rows::find(d, k, destination) {
-        Place::Here(_) => true,
-        Place::Nowhere => false,
+        Some(_) => true,
+        None => false,
     }
 }
 
@@ -287,8 +271,8 @@ fn enter(w: &mut [u64; 112], n: usize, u: Unrouted) -> usize
     ensures { Holds unrouted_table w.new result (insert_by unrouted_id u (live unrouted_table w.old n)) }
 {
     match tables::unrouted_rows::insert(w, n, u) {
-        Inserted::Full => n,
-        Inserted::Holding(m) => m,
+        None => n,
+        Some(m) => m,
     }
 }
 
@@ -312,8 +296,8 @@ fn hold(d: &mut [u64; 32], k: usize, destination: u16, attempts: u8) -> usize
         retries: restarts(attempts),
     };
     match tables::destination_rows::insert(d, k, h) {
-        Inserted::Full => k,
-        Inserted::Holding(m) => m,
+        None => k,
+        Some(m) => m,
     }
 }
 
@@ -325,24 +309,24 @@ pub fn enqueue(
     k: usize,
     u: Unrouted,
     attempts: u8,
-) -> Entering
+) -> Option<(usize, usize)>
     requires held { Held unrouted_table w.old n }
     requires held_2 { Held destination_table d.old k }
     ensures { Enqueued attempts u w.old n d.old k w.new d.new result }
 {
     if 16 <= n {
-        return Entering::NoRoom;
+        return None;
     }
     if is_held(d, k, u.destination) {
         let sends = enter(w, n, u);
-        return Entering::Entered(sends, k);
+        return Some((sends, k));
     }
     if 16 <= k {
-        return Entering::NoRoom;
+        return None;
     }
     let held = hold(d, k, u.destination, attempts);
     let sends = enter(w, n, u);
-    Entering::Entered(sends, held)
+    Some((sends, held))
 }
 
 // A destination's discovery lapsed: one restart of it is spent, if one is left and a send waits.
@@ -358,8 +342,8 @@ pub fn retry_discovery(
     ensures { Retried destination w.now n d.old k d.new result }
 {
     match tables::destination_rows::find(d, k, destination) {
-        Place::Nowhere => Retry::NotHeld,
-        Place::Here(i) => {
+        None => Retry::NotHeld,
+        Some(i) => {
             let h = tables::destination_rows::load(d, i);
             if h.retries == 0 {
                 return Retry::Declined;

@@ -2,6 +2,6 @@
 use Rattle.exchange.proofs.Worlds.{turned_pair}
 use Rattle.exchange.proofs.pair.Goals as goal
 
-pub returns-in-Pairs : goal.returns-in-Pairs
-returns-in-Pairs c =
-    turned_pair c.requires.ready c.args.s c.put_pair.ensures c.in-Pairs.is c.answer_done-wrote.ensures
+pub returns-in-Some : goal.returns-in-Some
+returns-in-Some c =
+    turned_pair c.requires.ready c.args.s c.put_pair.ensures c.in-Some.is c.answer_done-wrote.ensures

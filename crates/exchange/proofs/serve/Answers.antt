@@ -1,4 +1,5 @@
 -- Settings, abandon, the next wake, a pair, the lists.
+use Rattle.std.specs.Prelude.{Option, ℕ}
 use native.Mathlib.Omega.{arith}
 use mathlib.Core.Path.{refl, ap}
 use mathlib.Core.List.{[], ◌∷◌, ◌++◌}
@@ -9,7 +10,7 @@ use Rattle.events.specs.Signals.{settings_of, pair_of}
 use Rattle.answers.specs.Items.{items_bytes}
 use Rattle.listings.specs.Listings.{wake_items}
 use Rattle.listings.proofs.Pairings.{sound-fits}
-use Rattle.exchange.specs.Types.{Settings, Opt64, Done}
+use Rattle.exchange.specs.Types.{Settings, Done}
 use Rattle.exchange.specs.World.{World, world_of}
 use Rattle.exchange.proofs.Arms.{own-last}
 use Rattle.exchange.proofs.Answers.{answering-as}
@@ -44,7 +45,7 @@ returns-in-17 c = rw c.in-17.is c.abandon.ensures
 pub returns-in-18 : goal.returns-in-18
 unfolding event_of
 returns-in-18 c =
-    rw c.in-18.is (turned-still c.requires.ready c.args.s refl (answering-as (ap (λ (o : Opt64). items_bytes (wake_items o ++ (Done ∷ []))) c.next_wake-t.ensures) c.answer_wake-wrote.ensures))
+    rw c.in-18.is (turned-still c.requires.ready c.args.s refl (answering-as (ap (λ (o : Option ℕ). items_bytes (wake_items o ++ (Done ∷ []))) c.next_wake-t.ensures) c.answer_wake-wrote.ensures))
 
 pub returns-in-19 : goal.returns-in-19
 unfolding event_of pair_of

@@ -1,5 +1,5 @@
 use Rattle.rows.proofs.Promises.{never-full}
 use Rattle.unrouted.proofs.hold.Goals as goal
 
-pub returns-in-Full : goal.returns-in-Full
-returns-in-Full c = absurd (never-full c.requires.held c.requires.k_bound c.insert.ensures c.in-Full.is)
+pub returns-in-None : goal.returns-in-None
+returns-in-None c = absurd (never-full c.requires.held c.requires.k_bound c.insert.ensures c.in-None.is)

@@ -13,12 +13,12 @@ use Rattle.unrouted.proofs.is_held.Goals as goal
 abbrev held_at : ℕ → Destination → Bool
 held_at d h = eqb h.address d
 
-pub returns-in-Here : goal.returns-in-Here
-returns-in-Here c =
+pub returns-in-Some : goal.returns-in-Some
+returns-in-Some c =
     sym (first_found (held_at c.args.destination) Keeps blank_destination (live destination_table c.args.d.now c.args.k) _ (sym (find_first destination_address c.args.destination (live destination_table c.args.d.now c.args.k))
-    ∙ here-some _ _ (sym c.in-Here.is ∙ c.find.ensures))).any
+    ∙ here-some _ _ (sym c.in-Some.is ∙ c.find.ensures))).any
 
-pub returns-in-Nowhere : goal.returns-in-Nowhere
-returns-in-Nowhere c =
+pub returns-in-None : goal.returns-in-None
+returns-in-None c =
     sym (first-missed (held_at c.args.destination) Keeps (live destination_table c.args.d.now c.args.k) (sym (find_first destination_address c.args.destination (live destination_table c.args.d.now c.args.k))
-    ∙ nowhere-none _ (sym c.in-Nowhere.is ∙ c.find.ensures))).any
+    ∙ nowhere-none _ (sym c.in-None.is ∙ c.find.ensures))).any

@@ -1,7 +1,8 @@
+use Rattle.std.specs.Prelude.{Option, None, ℕ}
 use native.Mathlib.Omega.{arith}
 use mathlib.Core.Path.{ap, ◌∙◌}
 use Rattle.records.specs.Times.{sooner}
-use Rattle.unrouted.specs.Types.{Unrouted, UnroutedHead, Opt64, None64}
+use Rattle.unrouted.specs.Types.{Unrouted, UnroutedHead}
 use Rattle.rows.proofs.Promises.{fold-turn}
 use Rattle.unrouted.proofs.next_wake.Goals as goal
 
@@ -10,5 +11,5 @@ loop-i-preserved c =
     let at = c.loop-i in (
       omega arith,
       c.sooner_of-wake.ensures ∙ ap (λ (h : UnroutedHead). sooner h.deadline at.wake) c.head-h.ensures
-          ∙ fold-turn c.requires (λ (u : Unrouted) (o : Opt64). sooner u.deadline o) None64 at.i at.wake (omega arith) (omega arith) at.invariant.1,
+          ∙ fold-turn c.requires (λ (u : Unrouted) (o : Option ℕ). sooner u.deadline o) None at.i at.wake (omega arith) (omega arith) at.invariant.1,
     )

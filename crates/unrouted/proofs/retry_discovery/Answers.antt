@@ -1,7 +1,7 @@
+use Rattle.std.specs.Prelude.{Some}
 use Prim.Native.Nat.{◌-◌}
 use native.Mathlib.Omega.{arith}
 use mathlib.Core.Path.{sym, ap, ◌∙◌}
-use mathlib.Core.Option.{some}
 use lib.Dec.{eqb}
 use Rattle.records.specs.Records.{blank_destination, destination_address}
 use Rattle.records.specs.declared.Destination.{Destination}
@@ -18,34 +18,34 @@ abbrev spent : Destination → Turn Destination
 spent h = Keeps (record { address = h.address; retries = h.retries - 1 })
 
 pub load-h-requires : goal.load-h-requires
-load-h-requires c = omega (arith, hit-lt c.requires.held_2 _ _ (here-some _ _ (sym c.in-Here.is ∙ c.find.ensures)), c.requires.held_2.within)
+load-h-requires c = omega (arith, hit-lt c.requires.held_2 _ _ (here-some _ _ (sym c.in-Some.is ∙ c.find.ensures)), c.requires.held_2.within)
 
 pub returns-then-h-eq0 : goal.returns-then-h-eq0
 returns-then-h-eq0 c =
-    let e = hit-lookup c.requires.held_2 _ _ (here-some _ _ (sym c.in-Here.is ∙ c.find.ensures)) ∙ ap some (sym c.load-h.ensures) in
+    let e = hit-lookup c.requires.held_2 _ _ (here-some _ _ (sym c.in-Some.is ∙ c.find.ensures)) ∙ ap Some (sym c.load-h.ensures) in
     record { answer = none_left c.args.destination (live unrouted_table c.args.w.now c.args.n) (live destination_table c.args.d.now c.args.k) _ e c.if-h-eq0.true; table = held-holds c.requires.held_2 }
 
 pub returns-then-not-waits : goal.returns-then-not-waits
 returns-then-not-waits c =
-    let e = hit-lookup c.requires.held_2 _ _ (here-some _ _ (sym c.in-Here.is ∙ c.find.ensures)) in
+    let e = hit-lookup c.requires.held_2 _ _ (here-some _ _ (sym c.in-Some.is ∙ c.find.ensures)) in
     record {
       answer = none-waits c.args.destination (live unrouted_table c.args.w.now c.args.n) (live destination_table c.args.d.now c.args.k) _ e (sym c.waits.ensures ∙ c.if-not-waits.true);
       table = held-holds c.requires.held_2;
     }
 
-pub returns-in-Nowhere : goal.returns-in-Nowhere
-returns-in-Nowhere c =
-    let e = nowhere-none _ (sym c.in-Nowhere.is ∙ c.find.ensures) in
+pub returns-in-None : goal.returns-in-None
+returns-in-None c =
+    let e = nowhere-none _ (sym c.in-None.is ∙ c.find.ensures) in
     record { answer = not-held c.args.destination (live unrouted_table c.args.w.now c.args.n) (live destination_table c.args.d.now c.args.k) (miss-lookup c.requires.held_2 _ e); table = held-holds c.requires.held_2 }
 
 pub returns-else-not-waits : goal.returns-else-not-waits
 returns-else-not-waits c =
-    let f = here-some _ _ (sym c.in-Here.is ∙ c.find.ensures) in
-    let e = hit-lookup c.requires.held_2 _ _ f ∙ ap some (sym c.load-h.ensures) in
+    let f = here-some _ _ (sym c.in-Some.is ∙ c.find.ensures) in
+    let e = hit-lookup c.requires.held_2 _ _ f ∙ ap Some (sym c.load-h.ensures) in
     let g = first_found (λ (h : Destination). eqb h.address c.args.destination) spent blank_destination (live destination_table c.args.d.now c.args.k) _ (sym (find_first destination_address c.args.destination (live destination_table c.args.d.now c.args.k)) ∙ f) in
     let l = hit-lt c.requires.held_2 _ _ f in
     let at = held_at c.requires.held_2 _ blank_destination l ∙ sym c.load-h.ensures in
-    let mv = g.move ∙ ap (λ (h : Destination). placed (spent h) c.in-Here.i (live destination_table c.args.d.now c.args.k)) at in
+    let mv = g.move ∙ ap (λ (h : Destination). placed (spent h) c.in-Some.i (live destination_table c.args.d.now c.args.k)) at in
     record {
       answer = spends c.args.destination (live unrouted_table c.args.w.now c.args.n) (live destination_table c.args.d.now c.args.k) _ e (sym c.waits.ensures ∙ c.if-not-waits.false) c.if-h-eq0.false;
       table = rw mv c.store.ensures;
@@ -53,5 +53,5 @@ returns-else-not-waits c =
 
 pub store-requires-clause-stands : goal.store-requires-clause-stands
 store-requires-clause-stands c =
-    let e = here-some _ _ (sym c.in-Here.is ∙ c.find.ensures) in
+    let e = here-some _ _ (sym c.in-Some.is ∙ c.find.ensures) in
     record { there = hit-lt c.requires.held_2 _ _ e; same = ap (λ (h : Destination). h.address) c.load-h.ensures }

@@ -1,7 +1,7 @@
+use Rattle.std.specs.Prelude.{Some}
 use Prim.Native.Nat.{◌<◌}
 use native.Mathlib.Omega.{arith}
 use mathlib.Core.Path.{refl, sym, ap, ◌∙◌}
-use mathlib.Core.Option.{some}
 use Rattle.records.specs.Records.{blank_unrouted}
 use Rattle.rows.specs.Tables.{live}
 use Rattle.rows.specs.Moves.Turn.{Keeps}
@@ -13,19 +13,19 @@ use Rattle.unrouted.proofs.take.Goals as goal
 
 pub load-u-requires : goal.load-u-requires
 load-u-requires c =
-    omega (arith, (first_found (goes_to c.args.destination) Keeps blank_unrouted (live unrouted_table c.args.w.now c.args.n) _ (here-some _ _ (sym c.in-Here.is ∙ c.first_to.ensures))).there, held-length c.requires, c.requires.within)
+    omega (arith, (first_found (goes_to c.args.destination) Keeps blank_unrouted (live unrouted_table c.args.w.now c.args.n) _ (here-some _ _ (sym c.in-Some.is ∙ c.first_to.ensures))).there, held-length c.requires, c.requires.within)
 
-pub returns-in-Nowhere : goal.returns-in-Nowhere
-returns-in-Nowhere c =
-    let g = first-missed (goes_to c.args.destination) Keeps (live unrouted_table c.args.w.now c.args.n) (nowhere-none _ (sym c.in-Nowhere.is ∙ c.first_to.ensures)) in
+pub returns-in-None : goal.returns-in-None
+returns-in-None c =
+    let g = first-missed (goes_to c.args.destination) Keeps (live unrouted_table c.args.w.now c.args.n) (nowhere-none _ (sym c.in-None.is ∙ c.first_to.ensures)) in
     record { answer = sym (ap took_of g.is); table = refl }
 
-pub returns-in-Here : goal.returns-in-Here
-returns-in-Here c =
-    let g = first_found (goes_to c.args.destination) Keeps blank_unrouted (live unrouted_table c.args.w.now c.args.n) _ (here-some _ _ (sym c.in-Here.is ∙ c.first_to.ensures)) in
-    let l : c.in-Here.i < c.args.n = omega (arith, g.there, held-length c.requires) in
-    let e = g.is ∙ ap some (held_at c.requires _ blank_unrouted l ∙ sym c.load-u.ensures) in
-    record { answer = sym (ap took_of e); table = rw (drops (goes_to c.args.destination) (live unrouted_table c.args.w.now c.args.n) _ (here-some _ _ (sym c.in-Here.is ∙ c.first_to.ensures))) c.remove_at.ensures }
+pub returns-in-Some : goal.returns-in-Some
+returns-in-Some c =
+    let g = first_found (goes_to c.args.destination) Keeps blank_unrouted (live unrouted_table c.args.w.now c.args.n) _ (here-some _ _ (sym c.in-Some.is ∙ c.first_to.ensures)) in
+    let l : c.in-Some.i < c.args.n = omega (arith, g.there, held-length c.requires) in
+    let e = g.is ∙ ap Some (held_at c.requires _ blank_unrouted l ∙ sym c.load-u.ensures) in
+    record { answer = sym (ap took_of e); table = rw (drops (goes_to c.args.destination) (live unrouted_table c.args.w.now c.args.n) _ (here-some _ _ (sym c.in-Some.is ∙ c.first_to.ensures))) c.remove_at.ensures }
 
 pub remove_at-requires-clause-i_lt_n : goal.remove_at-requires-clause-i_lt_n
-remove_at-requires-clause-i_lt_n c = omega (arith, (first_found (goes_to c.args.destination) Keeps blank_unrouted (live unrouted_table c.args.w.now c.args.n) _ (here-some _ _ (sym c.in-Here.is ∙ c.first_to.ensures))).there, held-length c.requires)
+remove_at-requires-clause-i_lt_n c = omega (arith, (first_found (goes_to c.args.destination) Keeps blank_unrouted (live unrouted_table c.args.w.now c.args.n) _ (here-some _ _ (sym c.in-Some.is ∙ c.first_to.ensures))).there, held-length c.requires)

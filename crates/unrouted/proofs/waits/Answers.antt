@@ -7,10 +7,10 @@ use Rattle.unrouted.specs.Rules.{goes_to}
 use Rattle.rows.proofs.Promises.{here-some, nowhere-none, first_found, first-missed}
 use Rattle.unrouted.proofs.waits.Goals as goal
 
-pub returns-in-Here : goal.returns-in-Here
-returns-in-Here c =
-    sym (first_found (goes_to c.args.destination) Keeps blank_unrouted (live unrouted_table c.args.w.now c.args.n) _ (here-some _ _ (sym c.in-Here.is ∙ c.first_to.ensures))).any
+pub returns-in-Some : goal.returns-in-Some
+returns-in-Some c =
+    sym (first_found (goes_to c.args.destination) Keeps blank_unrouted (live unrouted_table c.args.w.now c.args.n) _ (here-some _ _ (sym c.in-Some.is ∙ c.first_to.ensures))).any
 
-pub returns-in-Nowhere : goal.returns-in-Nowhere
-returns-in-Nowhere c =
-    sym (first-missed (goes_to c.args.destination) Keeps (live unrouted_table c.args.w.now c.args.n) (nowhere-none _ (sym c.in-Nowhere.is ∙ c.first_to.ensures))).any
+pub returns-in-None : goal.returns-in-None
+returns-in-None c =
+    sym (first-missed (goes_to c.args.destination) Keeps (live unrouted_table c.args.w.now c.args.n) (nowhere-none _ (sym c.in-None.is ∙ c.first_to.ensures))).any

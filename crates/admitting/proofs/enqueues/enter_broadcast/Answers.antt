@@ -1,5 +1,5 @@
 use Rattle.rows.proofs.Promises.{never-full}
 use Rattle.admitting.proofs.enqueues.enter_broadcast.Goals as goal
 
-pub returns-in-Full : goal.returns-in-Full
-returns-in-Full c = absurd (never-full c.requires.held c.requires.n_bound c.insert.ensures c.in-Full.is)
+pub returns-in-None : goal.returns-in-None
+returns-in-None c = absurd (never-full c.requires.held c.requires.n_bound c.insert.ensures c.in-None.is)

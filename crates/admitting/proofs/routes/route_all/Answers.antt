@@ -3,15 +3,15 @@ use native.Mathlib.Omega.{arith}
 use Rattle.admitting.proofs.Routings.{route-free, route-some, route-turn, route-end}
 use Rattle.admitting.proofs.routes.route_all.Goals as goal
 
-pub returns-in-Nothing : goal.returns-in-Nothing
-returns-in-Nothing c =
+pub returns-in-None : goal.returns-in-None
+returns-in-None c =
     let at = c.loop-i in
-    absurd (route-some at.invariant c.requires.routable.there (omega arith) c.take.ensures c.in-Nothing.is)
+    absurd (route-some at.invariant c.requires.routable.there (omega arith) c.take.ensures c.in-None.is)
 
 pub loop-i-preserved : goal.loop-i-preserved
 loop-i-preserved c =
     let at = c.loop-i in
-    route-turn at.invariant c.requires.routable.there _ _ (omega arith) c.take.ensures c.in-Took.is c.route_one-x.ensures
+    route-turn at.invariant c.requires.routable.there _ _ (omega arith) c.take.ensures c.in-Some.is c.route_one-x.ensures
 
 pub returns : goal.returns
 returns c =

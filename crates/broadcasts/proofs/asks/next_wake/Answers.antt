@@ -1,5 +1,6 @@
+use Rattle.std.specs.Prelude.{None}
 use Rattle.casting.specs.Rules.{wake_head, wake_step}
-use Rattle.casting.specs.Types.{BroadcastHead, None64}
+use Rattle.casting.specs.Types.{BroadcastHead}
 use Rattle.rows.proofs.Promises.{fold-turn}
 use mathlib.Core.Path.{ap, ◌∙◌}
 use native.Mathlib.Omega.{arith}
@@ -10,5 +11,5 @@ loop-i-preserved c =
     let at = c.loop-i in (
       omega arith,
       c.wake-wake.ensures ∙ ap (λ (h : BroadcastHead). wake_head h at.wake) c.head-h.ensures
-          ∙ fold-turn c.requires wake_step None64 at.i at.wake (omega arith) (omega arith) at.invariant.1,
+          ∙ fold-turn c.requires wake_step None at.i at.wake (omega arith) (omega arith) at.invariant.1,
     )

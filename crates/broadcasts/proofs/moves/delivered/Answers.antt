@@ -9,13 +9,13 @@ use mathlib.Core.Path.{sym, ◌∙◌}
 use Rattle.broadcasts.proofs.moves.delivered.Goals as goal
 
 pub load-u-requires : goal.load-u-requires
-load-u-requires c = omega (arith, scanned-lt c.requires.held (keyed c.args.key) (sym c.in-Here.is ∙ c.first_keyed.ensures), c.requires.held.within)
+load-u-requires c = omega (arith, scanned-lt c.requires.held (keyed c.args.key) (sym c.in-Some.is ∙ c.first_keyed.ensures), c.requires.held.within)
 
-pub returns-in-Nowhere : goal.returns-in-Nowhere
-returns-in-Nowhere c = turn-missed c.requires.held (keyed c.args.key) delivered_turn (nowhere-none _ (sym c.in-Nowhere.is ∙ c.first_keyed.ensures))
+pub returns-in-None : goal.returns-in-None
+returns-in-None c = turn-missed c.requires.held (keyed c.args.key) delivered_turn (nowhere-none _ (sym c.in-None.is ∙ c.first_keyed.ensures))
 
-pub returns-in-Here : goal.returns-in-Here
-returns-in-Here c = turn-found c.requires.held (keyed c.args.key) delivered_turn _ (here-some _ _ (sym c.in-Here.is ∙ c.first_keyed.ensures)) (as-played delivered_turn c.load-u.ensures c.delivered-t.ensures c.play.ensures)
+pub returns-in-Some : goal.returns-in-Some
+returns-in-Some c = turn-found c.requires.held (keyed c.args.key) delivered_turn _ (here-some _ _ (sym c.in-Some.is ∙ c.first_keyed.ensures)) (as-played delivered_turn c.load-u.ensures c.delivered-t.ensures c.play.ensures)
 
 pub play-requires-clause-plays : goal.play-requires-clause-plays
-play-requires-clause-plays c = plays delivered_turn c.load-u.ensures c.delivered-t.ensures (scanned-lt c.requires.held (keyed c.args.key) (sym c.in-Here.is ∙ c.first_keyed.ensures)) (same-delivered c.load-u.result) c.requires.m_bound
+play-requires-clause-plays c = plays delivered_turn c.load-u.ensures c.delivered-t.ensures (scanned-lt c.requires.held (keyed c.args.key) (sym c.in-Some.is ∙ c.first_keyed.ensures)) (same-delivered c.load-u.result) c.requires.m_bound

@@ -2,10 +2,10 @@ use Rattle.events.specs.Arrivals.{copy_of}
 use Rattle.events.specs.Types.{OnCopy}
 use Rattle.events.proofs.arrivals.decode_copy.Goals as goal
 
-pub returns-in-IsUnicast : goal.returns-in-IsUnicast
+pub returns-in-Some : goal.returns-in-Some
 unfolding copy_of
-returns-in-IsUnicast c = rw (← c.unicast_at.ensures, c.in-IsUnicast.is) (λ k. OnCopy (c.u32_at-id.ensures k) (c.u64_at-clock.ensures k) c.in-IsUnicast.u)
+returns-in-Some c = rw (← c.unicast_at.ensures, c.in-Some.is) (λ k. OnCopy (c.u32_at-id.ensures k) (c.u64_at-clock.ensures k) c.in-Some.u)
 
-pub returns-in-WrongUnicast : goal.returns-in-WrongUnicast
+pub returns-in-None : goal.returns-in-None
 unfolding copy_of
-returns-in-WrongUnicast c = rw (← c.unicast_at.ensures, c.in-WrongUnicast.is)
+returns-in-None c = rw (← c.unicast_at.ensures, c.in-None.is)

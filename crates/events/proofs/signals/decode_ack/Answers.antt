@@ -1,10 +1,10 @@
 use Rattle.events.specs.Signals.{ack_of}
 use Rattle.events.proofs.signals.decode_ack.Goals as goal
 
-pub returns-in-IsKey : goal.returns-in-IsKey
+pub returns-in-Some : goal.returns-in-Some
 unfolding ack_of
-returns-in-IsKey c = rw (← c.key_at.ensures, c.in-IsKey.is)
+returns-in-Some c = rw (← c.key_at.ensures, c.in-Some.is)
 
-pub returns-in-WrongKey : goal.returns-in-WrongKey
+pub returns-in-None : goal.returns-in-None
 unfolding ack_of
-returns-in-WrongKey c = rw (← c.key_at.ensures, c.in-WrongKey.is)
+returns-in-None c = rw (← c.key_at.ensures, c.in-None.is)

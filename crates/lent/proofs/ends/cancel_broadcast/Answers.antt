@@ -1,7 +1,7 @@
+use Rattle.std.specs.Prelude.{None}
 use native.Mathlib.Omega.{arith}
 use mathlib.Core.Path.{◌≡◌, refl, sym, ap, ◌∙◌}
 use mathlib.Core.Bool.{true, false}
-use mathlib.Core.Option.{none}
 use lib.ListN.{get_or}
 use Rattle.records.specs.Records.{blank_broadcast, broadcast_id, broadcast_entry}
 use Rattle.rows.specs.Lists.{lookup}
@@ -20,18 +20,18 @@ use Rattle.doing.specs.Types.{NoSuchSend, InTheRadio}
 use Rattle.lent.proofs.Barrings.{does-barred, answered-as, cast-sent, cast-own}
 use Rattle.lent.proofs.ends.cancel_broadcast.Goals as goal
 
-pub returns-in-Nowhere : goal.returns-in-Nowhere
-returns-in-Nowhere c =
+pub returns-in-None : goal.returns-in-None
+returns-in-None c =
     let us = live unicast_table c.args.w.now c.args.c.unicasts in
-    let e = miss-lookup c.requires.broadcasts c.args.id (nowhere-none _ (sym c.in-Nowhere.is ∙ c.find.ensures)) in
+    let e = miss-lookup c.requires.broadcasts c.args.id (nowhere-none _ (sym c.in-None.is ∙ c.find.ensures)) in
     does-barred c.requires (cancel_broadcast (lent_model c.args.c c.args.w.now c.args.v.now c.args.d.now c.args.b.now) c.args.id) NoSuchSend (ap (cast_bar c.args.id us) e) refl refl refl c.denied.ensures
 
-pub returns-in-Here : goal.returns-in-Here
-returns-in-Here c =
+pub returns-in-Some : goal.returns-in-Some
+returns-in-Some c =
     let us = live unicast_table c.args.w.now c.args.c.unicasts in
-    let e = hit-lookup c.requires.broadcasts c.args.id _ (here-some _ _ (sym c.in-Here.is ∙ c.find.ensures)) in
+    let e = hit-lookup c.requires.broadcasts c.args.id _ (here-some _ _ (sym c.in-Some.is ∙ c.find.ensures)) in
     let t : any_of (sent_copy c.args.id) us ≡ true = sym c.copy_in_radio.ensures ∙ c.if-copy_in_radio.true in
-    does-barred c.requires (cancel_broadcast (lent_model c.args.c c.args.w.now c.args.v.now c.args.d.now c.args.b.now) c.args.id) InTheRadio (ap (cast_bar c.args.id us) e ∙ cast-sent c.args.id us (get_or (rows_of broadcast_table c.args.b.now) c.in-Here.field-0 blank_broadcast) t) refl refl refl c.denied-in-Here.ensures
+    does-barred c.requires (cancel_broadcast (lent_model c.args.c c.args.w.now c.args.v.now c.args.d.now c.args.b.now) c.args.id) InTheRadio (ap (cast_bar c.args.id us) e ∙ cast-sent c.args.id us (get_or (rows_of broadcast_table c.args.b.now) c.in-Some.field-0 blank_broadcast) t) refl refl refl c.denied-in-Some.ensures
 
 pub returns-in-Refused : goal.returns-in-Refused
 returns-in-Refused c =
@@ -47,7 +47,7 @@ returns-in-Done c =
     let g = answered-as c.cancel.ensures (Done x) c.in-Done.is in
     let us = live unicast_table c.args.w.now c.args.c.unicasts in
     let t : any_of (sent_copy c.args.id) us ≡ false = sym c.copy_in_radio.ensures ∙ c.if-copy_in_radio.false in
-    let e : cast_bar c.args.id us (lookup broadcast_id c.args.id (live broadcast_table c.args.b.now c.args.c.broadcasts)) ≡ none = cast-own c.args.id us (lookup broadcast_id c.args.id (live broadcast_table c.args.b.now c.args.c.broadcasts)) t ∙ sym g.answer in
+    let e : cast_bar c.args.id us (lookup broadcast_id c.args.id (live broadcast_table c.args.b.now c.args.c.broadcasts)) ≡ None = cast-own c.args.id us (lookup broadcast_id c.args.id (live broadcast_table c.args.b.now c.args.c.broadcasts)) t ∙ sym g.answer in
     rw e
     (record {
       next = refl;

@@ -1,6 +1,6 @@
+use Rattle.std.specs.Prelude.{None}
 use Rattle.rows.proofs.Promises.{fold-turn}
 use Rattle.sending.specs.Lists.{best_step}
-use Rattle.sending.specs.declared.Best.TheVariants.{NoneReady}
 use native.Mathlib.Omega.{arith}
 use mathlib.Core.Path.{◌∙◌}
 use Rattle.scanning.proofs.asks.best_queued.Goals as goal
@@ -10,5 +10,5 @@ loop-i-preserved c =
     let at = c.loop-i in (
       omega arith,
       c.best_at-best.ensures
-          ∙ fold-turn c.requires (best_step c.args.clock) NoneReady at.i at.best (omega arith) (omega arith) at.invariant.1,
+          ∙ fold-turn c.requires (best_step c.args.clock) None at.i at.best (omega arith) (omega arith) at.invariant.1,
     )

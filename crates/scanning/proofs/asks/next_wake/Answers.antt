@@ -1,7 +1,8 @@
+use Rattle.std.specs.Prelude.{None}
 use Rattle.rows.proofs.Promises.{fold-turn}
 use Rattle.sending.specs.Lists.{wake_step}
 use Rattle.sending.specs.Rules.{wake_head}
-use Rattle.sending.specs.Types.{UnicastHead, None64}
+use Rattle.sending.specs.Types.{UnicastHead}
 use native.Mathlib.Omega.{arith}
 use mathlib.Core.Path.{ap, ◌∙◌}
 use Rattle.scanning.proofs.asks.next_wake.Goals as goal
@@ -11,5 +12,5 @@ loop-left-preserved c =
     let at = c.loop-left in (
       omega arith,
       c.wake_with-wake.ensures ∙ ap (λ (h : UnicastHead). wake_head h at.wake) c.head.ensures
-          ∙ fold-turn c.requires (wake_step) None64 at.left at.wake (omega arith) (omega arith) at.invariant.1,
+          ∙ fold-turn c.requires (wake_step) None at.left at.wake (omega arith) (omega arith) at.invariant.1,
     )

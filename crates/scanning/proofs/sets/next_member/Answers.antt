@@ -1,5 +1,5 @@
+use Rattle.std.specs.Prelude.{Option, None, ℕ}
 use Rattle.sending.specs.Members.{member_head, least_with, least_step, member_of}
-use Rattle.sending.specs.Types.{Opt64, None64}
 use Rattle.rows.proofs.Promises.{fold-turn}
 use native.Mathlib.Omega.{arith}
 use mathlib.Core.Path.{ap, ◌∙◌}
@@ -10,7 +10,7 @@ loop-i-preserved c =
     let at = c.loop-i in (
       omega arith,
       c.least_with-least.ensures
-          ∙ ap (λ (m : Opt64). least_with c.args.last m at.least)
+          ∙ ap (λ (m : Option ℕ). least_with c.args.last m at.least)
           (c.member_of-m.ensures ∙ ap (member_head c.args.book c.args.eui.now c.args.nwk.now) c.head.ensures)
-          ∙ fold-turn c.requires (least_step (member_of c.args.book c.args.eui.now c.args.nwk.now) c.args.last) None64 at.i at.least (omega arith) (omega arith) at.invariant.1,
+          ∙ fold-turn c.requires (least_step (member_of c.args.book c.args.eui.now c.args.nwk.now) c.args.last) None at.i at.least (omega arith) (omega arith) at.invariant.1,
     )

@@ -8,21 +8,21 @@ use Rattle.unicasts.proofs.calls.ack.Goals as goal
 pub load-u-requires : goal.load-u-requires
 load-u-requires c =
     let h = c.requires.held in
-    let e = scan-some (keyed c.args.key) c.args.w.now c.args.n _ c.first_keyed.ensures c.in-Here.is in
+    let e = scan-some (keyed c.args.key) c.args.w.now c.args.n _ c.first_keyed.ensures c.in-Some.is in
     first-room h (keyed c.args.key) _ e
 
-pub returns-in-Nowhere : goal.returns-in-Nowhere
-returns-in-Nowhere c =
-    turn-missed c.requires.held (keyed c.args.key) ack_turn (scan-none (keyed c.args.key) c.args.w.now c.args.n c.first_keyed.ensures c.in-Nowhere.is)
+pub returns-in-None : goal.returns-in-None
+returns-in-None c =
+    turn-missed c.requires.held (keyed c.args.key) ack_turn (scan-none (keyed c.args.key) c.args.w.now c.args.n c.first_keyed.ensures c.in-None.is)
 
-pub returns-in-Here : goal.returns-in-Here
-returns-in-Here c =
+pub returns-in-Some : goal.returns-in-Some
+returns-in-Some c =
     let h = c.requires.held in
-    let e = scan-some (keyed c.args.key) c.args.w.now c.args.n _ c.first_keyed.ensures c.in-Here.is in
+    let e = scan-some (keyed c.args.key) c.args.w.now c.args.n _ c.first_keyed.ensures c.in-Some.is in
     turn-found h (keyed c.args.key) ack_turn _ e (played-as (c.ack_turn-t.ensures ∙ ap ack_turn c.load-u.ensures) c.load-u.ensures c.play.ensures)
 
 pub play-requires-clause-i_lt_n : goal.play-requires-clause-i_lt_n
 play-requires-clause-i_lt_n c =
     let h = c.requires.held in
-    let e = scan-some (keyed c.args.key) c.args.w.now c.args.n _ c.first_keyed.ensures c.in-Here.is in
+    let e = scan-some (keyed c.args.key) c.args.w.now c.args.n _ c.first_keyed.ensures c.in-Some.is in
     first-lt h (keyed c.args.key) _ e

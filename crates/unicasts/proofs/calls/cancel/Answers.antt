@@ -11,28 +11,28 @@ use Rattle.unicasts.proofs.calls.cancel.Goals as goal
 pub load-u-requires : goal.load-u-requires
 load-u-requires c =
     let h = c.requires.held in
-    let e = find-here c.args.w.now c.args.n c.args.id _ c.find.ensures c.in-Here.is in
+    let e = find-here c.args.w.now c.args.n c.args.id _ c.find.ensures c.in-Some.is in
     first-room h (has_id unicast_entry c.args.id) _ e
 
 pub returns-then-is_sending : goal.returns-then-is_sending
 returns-then-is_sending c =
     let h = c.requires.held in
-    let e = find-here c.args.w.now c.args.n c.args.id _ c.find.ensures c.in-Here.is in
+    let e = find-here c.args.w.now c.args.n c.args.id _ c.find.ensures c.in-Some.is in
     refused InTheRadio (first-row h (has_id unicast_entry c.args.id) _ e) (cancel-sending (row_at c.args.w.now _) (sending-row c.load-u.ensures c.is_sending.ensures c.if-is_sending.true))
 
-pub returns-in-Nowhere : goal.returns-in-Nowhere
-returns-in-Nowhere c =
-    refused NoSuchSend (first-none c.requires.held (has_id unicast_entry c.args.id) (find-nowhere c.args.w.now c.args.n c.args.id c.find.ensures c.in-Nowhere.is)) refl
+pub returns-in-None : goal.returns-in-None
+returns-in-None c =
+    refused NoSuchSend (first-none c.requires.held (has_id unicast_entry c.args.id) (find-nowhere c.args.w.now c.args.n c.args.id c.find.ensures c.in-None.is)) refl
 
 pub returns-else-is_sending : goal.returns-else-is_sending
 returns-else-is_sending c =
     let h = c.requires.held in
-    let e = find-here c.args.w.now c.args.n c.args.id _ c.find.ensures c.in-Here.is in
+    let e = find-here c.args.w.now c.args.n c.args.id _ c.find.ensures c.in-Some.is in
     done h _ e (cancel-idle (row_at c.args.w.now _) (sending-row c.load-u.ensures c.is_sending.ensures c.if-is_sending.false))
     (played-as (c.cancel_turn-t.ensures ∙ ap cancel_turn c.load-u.ensures) c.load-u.ensures c.play-c.ensures)
 
 pub play-c-requires-clause-i_lt_n : goal.play-c-requires-clause-i_lt_n
 play-c-requires-clause-i_lt_n c =
     let h = c.requires.held in
-    let e = find-here c.args.w.now c.args.n c.args.id _ c.find.ensures c.in-Here.is in
+    let e = find-here c.args.w.now c.args.n c.args.id _ c.find.ensures c.in-Some.is in
     first-lt h (has_id unicast_entry c.args.id) _ e

@@ -12,21 +12,21 @@ use Rattle.unicasts.proofs.calls.dequeue.Goals as goal
 pub load-u-requires : goal.load-u-requires
 load-u-requires c =
     let h = c.requires in
-    let e = find-here c.args.w.now c.args.n c.args.id _ c.find.ensures c.in-Here.is in
+    let e = find-here c.args.w.now c.args.n c.args.id _ c.find.ensures c.in-Some.is in
     first-room h (has_id unicast_entry c.args.id) _ e
 
-pub returns-in-Nowhere : goal.returns-in-Nowhere
-returns-in-Nowhere c =
-    let e = find-nowhere c.args.w.now c.args.n c.args.id c.find.ensures c.in-Nowhere.is in
+pub returns-in-None : goal.returns-in-None
+returns-in-None c =
+    let e = find-nowhere c.args.w.now c.args.n c.args.id c.find.ensures c.in-None.is in
     record {
       answer = sym (ap (loan_by c.args.id (sends c.args.w.now c.args.n)) (first-none c.requires (has_id unicast_entry c.args.id) e));
       table = first-stays c.requires (has_id unicast_entry c.args.id) lend_turn e;
     }
 
-pub returns-in-Here : goal.returns-in-Here
-returns-in-Here c =
+pub returns-in-Some : goal.returns-in-Some
+returns-in-Some c =
     let h = c.requires in
-    let e = find-here c.args.w.now c.args.n c.args.id _ c.find.ensures c.in-Here.is in
+    let e = find-here c.args.w.now c.args.n c.args.id _ c.find.ensures c.in-Some.is in
     record {
       answer = lent_is c.args.id (sends c.args.w.now c.args.n) (first-row h (has_id unicast_entry c.args.id) _ e) c.load-u.ensures c.frame_pending-pending.ensures;
       table = first-stored h (has_id unicast_entry c.args.id) (λ (u : Unicast). with_stage u (Transmitting false)) _ e
@@ -36,5 +36,5 @@ returns-in-Here c =
 pub store-requires-clause-stands : goal.store-requires-clause-stands
 store-requires-clause-stands c =
     let h = c.requires in
-    let e = find-here c.args.w.now c.args.n c.args.id _ c.find.ensures c.in-Here.is in
+    let e = find-here c.args.w.now c.args.n c.args.id _ c.find.ensures c.in-Some.is in
     stands (first-lt h (has_id unicast_entry c.args.id) _ e) c.load-u.ensures (ap unicast_entry c.staged-v.ensures)

@@ -8,22 +8,22 @@ use Rattle.unicasts.proofs.calls.poll.Goals as goal
 pub load-u-requires : goal.load-u-requires
 load-u-requires c =
     let h = c.requires in
-    let e = scan-some (awaits c.args.eui c.args.nwk c.args.clock) c.args.w.now c.args.n _ c.first_awaited.ensures c.in-Here.is in
+    let e = scan-some (awaits c.args.eui c.args.nwk c.args.clock) c.args.w.now c.args.n _ c.first_awaited.ensures c.in-Some.is in
     first-room h (awaits c.args.eui c.args.nwk c.args.clock) _ e
 
-pub returns-in-Nowhere : goal.returns-in-Nowhere
-returns-in-Nowhere c =
-    let e = scan-none (awaits c.args.eui c.args.nwk c.args.clock) c.args.w.now c.args.n c.first_awaited.ensures c.in-Nowhere.is in
+pub returns-in-None : goal.returns-in-None
+returns-in-None c =
+    let e = scan-none (awaits c.args.eui c.args.nwk c.args.clock) c.args.w.now c.args.n c.first_awaited.ensures c.in-None.is in
     record { answer = any_none c.requires (awaits c.args.eui c.args.nwk c.args.clock) e; table = first-stays c.requires (awaits c.args.eui c.args.nwk c.args.clock) poll_turn e }
 
-pub returns-in-Here : goal.returns-in-Here
-returns-in-Here c =
+pub returns-in-Some : goal.returns-in-Some
+returns-in-Some c =
     let h = c.requires in
-    let e = scan-some (awaits c.args.eui c.args.nwk c.args.clock) c.args.w.now c.args.n _ c.first_awaited.ensures c.in-Here.is in
+    let e = scan-some (awaits c.args.eui c.args.nwk c.args.clock) c.args.w.now c.args.n _ c.first_awaited.ensures c.in-Some.is in
     record { answer = any-there h (awaits c.args.eui c.args.nwk c.args.clock) _ e; table = first-stored h (awaits c.args.eui c.args.nwk c.args.clock) polled_of _ e (c.polled-v.ensures ∙ ap polled_of c.load-u.ensures) c.store.ensures }
 
 pub store-requires-clause-stands : goal.store-requires-clause-stands
 store-requires-clause-stands c =
     let h = c.requires in
-    let e = scan-some (awaits c.args.eui c.args.nwk c.args.clock) c.args.w.now c.args.n _ c.first_awaited.ensures c.in-Here.is in
+    let e = scan-some (awaits c.args.eui c.args.nwk c.args.clock) c.args.w.now c.args.n _ c.first_awaited.ensures c.in-Some.is in
     stands (first-lt h (awaits c.args.eui c.args.nwk c.args.clock) _ e) c.load-u.ensures (ap unicast_entry c.polled-v.ensures)

@@ -1,5 +1,6 @@
+use Rattle.std.specs.Prelude.{None}
 use Rattle.sending.specs.Rules.{with_stage}
-use Rattle.sending.specs.Types.{None16, Failure, Queued}
+use Rattle.sending.specs.Types.{Failure, Queued}
 use Rattle.sending.specs.declared.Due.TheVariants.{Leave, Requeue, Finish}
 use Rattle.actions.proofs.Sweeps.{sweep-quiet, sweep-stays, sweep-goes, sweep-end}
 use Rattle.scanning.proofs.Scans.{row_at}
@@ -21,7 +22,7 @@ loop-i-preserved-in-Requeue c =
 pub loop-i-preserved : goal.loop-i-preserved
 loop-i-preserved c =
     let at = c.loop-i in
-    sweep-goes at.invariant c.in-Finish.again (Failure c.in-Finish.f) None16 (omega arith)
+    sweep-goes at.invariant c.in-Finish.again (Failure c.in-Finish.f) None (omega arith)
     (due-is c.args.which (row_at at.w at.i) (Finish c.in-Finish.again c.in-Finish.f) c.head.ensures c.due_of.ensures c.in-Finish.is)
     c.finish-m.ensures.table c.finish-m.ensures.tells
 
