@@ -5,19 +5,13 @@ use mathlib.Core.Bool.{true}
 use borrow.Author.Tests.{eqb-true, eq-eqb}
 use Rattle.records.proofs.Cases.{never, both}
 use Rattle.records.specs.Types.{Address, Absent, Short, Extended, AckKey, QuorumKey}
-use Rattle.records.specs.Same.{same8, same16, same_address, same_ack_key, same_quorum_key}
+use Rattle.records.specs.Same.{same_number, same_address, same_ack_key, same_quorum_key}
 
-pub equal8 : (a b : Option ℕ) → same8 a b ≡ true → a ≡ b
-equal8 None None e = refl
-equal8 None (Some y) e = never e
-equal8 (Some x) None e = never e
-equal8 (Some x) (Some y) e = ap Some (eqb-true x y e)
-
-pub equal16 : (a b : Option ℕ) → same16 a b ≡ true → a ≡ b
-equal16 None None e = refl
-equal16 None (Some y) e = never e
-equal16 (Some x) None e = never e
-equal16 (Some x) (Some y) e = ap Some (eqb-true x y e)
+pub equal-number : (a b : Option ℕ) → same_number a b ≡ true → a ≡ b
+equal-number None None e = refl
+equal-number None (Some y) e = never e
+equal-number (Some x) None e = never e
+equal-number (Some x) (Some y) e = ap Some (eqb-true x y e)
 
 pub equal-address : (a b : Address) → same_address a b ≡ true → a ≡ b
 equal-address Absent Absent e = refl
@@ -39,10 +33,10 @@ equal-ack-key a b e =
     let p = both _ _ l.1 in
     let es : a.src ≡ b.src = eqb-true a.src b.src s.0 in
     let ec : a.counter ≡ b.counter = eqb-true a.counter b.counter c.0 in
-    let ed = equal8 a.destination_endpoint b.destination_endpoint d.0 in
-    let el = equal16 a.cluster_id b.cluster_id l.0 in
-    let ep = equal16 a.profile_id b.profile_id p.0 in
-    let ee = equal8 a.source_endpoint b.source_endpoint p.1 in
+    let ed = equal-number a.destination_endpoint b.destination_endpoint d.0 in
+    let el = equal-number a.cluster_id b.cluster_id l.0 in
+    let ep = equal-number a.profile_id b.profile_id p.0 in
+    let ee = equal-number a.source_endpoint b.source_endpoint p.1 in
     λ k. record {
       src = es k;
       destination_endpoint = ed k;
@@ -61,13 +55,9 @@ equal-quorum-key a b e =
 
 -- ---- and each is the same as itself
 
-pub itself8 : (a : Option ℕ) → same8 a a ≡ true
-itself8 None = refl
-itself8 (Some x) = eq-eqb x x refl
-
-pub itself16 : (a : Option ℕ) → same16 a a ≡ true
-itself16 None = refl
-itself16 (Some x) = eq-eqb x x refl
+pub itself-number : (a : Option ℕ) → same_number a a ≡ true
+itself-number None = refl
+itself-number (Some x) = eq-eqb x x refl
 
 pub itself-address : (a : Address) → same_address a a ≡ true
 itself-address Absent = refl
@@ -79,10 +69,10 @@ itself-ack-key a =
     rw (
       eq-eqb a.src a.src refl,
       eq-eqb a.counter a.counter refl,
-      itself8 a.destination_endpoint,
-      itself16 a.cluster_id,
-      itself16 a.profile_id,
-      itself8 a.source_endpoint,
+      itself-number a.destination_endpoint,
+      itself-number a.cluster_id,
+      itself-number a.profile_id,
+      itself-number a.source_endpoint,
     )
 
 pub itself-quorum-key : (a : QuorumKey) → same_quorum_key a a ≡ true

@@ -2,17 +2,11 @@
 use Rattle.std.specs.Prelude.{Bool, true, false, ◌&&◌, eqb, Option, None, Some, ℕ}
 use Rattle.records.specs.Types.{Address, Absent, Short, Extended, AckKey, QuorumKey}
 
-abbrev pub same8 : Option ℕ → Option ℕ → Bool
-same8 None None = true
-same8 None (Some y) = false
-same8 (Some x) None = false
-same8 (Some x) (Some y) = eqb x y
-
-abbrev pub same16 : Option ℕ → Option ℕ → Bool
-same16 None None = true
-same16 None (Some y) = false
-same16 (Some x) None = false
-same16 (Some x) (Some y) = eqb x y
+abbrev pub same_number : Option ℕ → Option ℕ → Bool
+same_number None None = true
+same_number None (Some y) = false
+same_number (Some x) None = false
+same_number (Some x) (Some y) = eqb x y
 
 abbrev pub same_address : Address → Address → Bool
 same_address Absent Absent = true
@@ -28,8 +22,8 @@ same_address (Extended x) (Extended y) = eqb x y
 -- all six fields
 abbrev pub same_ack_key : AckKey → AckKey → Bool
 same_ack_key a b =
-    eqb a.src b.src && (eqb a.counter b.counter && (same8 a.destination_endpoint b.destination_endpoint
-    && (same16 a.cluster_id b.cluster_id && (same16 a.profile_id b.profile_id && same8 a.source_endpoint b.source_endpoint))))
+    eqb a.src b.src && (eqb a.counter b.counter && (same_number a.destination_endpoint b.destination_endpoint
+    && (same_number a.cluster_id b.cluster_id && (same_number a.profile_id b.profile_id && same_number a.source_endpoint b.source_endpoint))))
 
 abbrev pub same_quorum_key : QuorumKey → QuorumKey → Bool
 same_quorum_key a b = eqb a.src b.src && eqb a.sequence b.sequence

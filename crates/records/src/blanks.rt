@@ -3,7 +3,10 @@
 ghost use Rattle.std.specs.Prelude.{◌≡◌};
 ghost use Rattle.records.specs.Records.{blank_unicast, blank_unrouted, blank_broadcast, blank_destination, unicast_entry, unrouted_entry, broadcast_entry};
 
-use crate::{Address, Broadcast, Confirm, CopyState, Destination, Entry, Priority, Schedule, Stage, Unicast, Unrouted};
+use crate::{
+    Address, Broadcast, Confirm, CopyState, Destination, Entry, Priority, Schedule, Stage, Unicast,
+    Unrouted,
+};
 
 pub fn blank_unicast() -> Unicast
     ensures { result ≡ blank_unicast }

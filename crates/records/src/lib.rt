@@ -8,7 +8,7 @@ pub mod priorities;
 pub mod times;
 
 // The address that a device polls under.
-#[derive(Clone, Copy)]
+#[derive(Clone, Copy, PartialEq, Eq)]
 pub enum Address {
     Absent,
     Short(u16),
@@ -16,7 +16,7 @@ pub enum Address {
 }
 
 // Transmit priority, lowest first.
-#[derive(Clone, Copy)]
+#[derive(Clone, Copy, PartialEq, Eq)]
 pub enum Priority {
     Background,
     UserLow,
@@ -27,7 +27,7 @@ pub enum Priority {
 }
 
 // What an end-to-end ack is matched on.
-#[derive(Clone, Copy)]
+#[derive(Clone, Copy, PartialEq, Eq)]
 pub struct AckKey {
     pub src: u16,
     pub destination_endpoint: Option<u8>,
@@ -38,14 +38,14 @@ pub struct AckKey {
 }
 
 // What settles a unicast: its handoff, or an ack with that key, waited for that long after the handoff.
-#[derive(Clone, Copy)]
+#[derive(Clone, Copy, PartialEq, Eq)]
 pub enum Confirm {
     OnHandoff,
     ApsAck(AckKey, u32),
 }
 
 // Where a unicast stands. In the radio it keeps whether its ack has come; a retry keeps the time at which it is due.
-#[derive(Clone, Copy)]
+#[derive(Clone, Copy, PartialEq, Eq)]
 pub enum Stage {
     Queued,
     Transmitting(bool),
@@ -55,7 +55,7 @@ pub enum Stage {
 }
 
 // A unicast with a known next hop. The handle of its frame stays here while the frame is in the radio.
-#[derive(Clone, Copy)]
+#[derive(Clone, Copy, PartialEq, Eq)]
 pub struct Unicast {
     pub id: u32,
     pub frame: u32,
@@ -71,7 +71,7 @@ pub struct Unicast {
 }
 
 // A unicast that waits for a route to its destination.
-#[derive(Clone, Copy)]
+#[derive(Clone, Copy, PartialEq, Eq)]
 pub struct Unrouted {
     pub id: u32,
     pub frame: u32,
@@ -83,21 +83,21 @@ pub struct Unrouted {
 }
 
 // A destination whose route is being discovered, and how often that may be started again.
-#[derive(Clone, Copy)]
+#[derive(Clone, Copy, PartialEq, Eq)]
 pub struct Destination {
     pub address: u16,
     pub retries: u8,
 }
 
 // What a quorum is reported for.
-#[derive(Clone, Copy)]
+#[derive(Clone, Copy, PartialEq, Eq)]
 pub struct QuorumKey {
     pub src: u16,
     pub sequence: u8,
 }
 
 // How a broadcast is repeated: copies left, and when the next is due.
-#[derive(Clone, Copy)]
+#[derive(Clone, Copy, PartialEq, Eq)]
 pub enum Schedule {
     Once,
     PassiveAck {
@@ -113,14 +113,14 @@ pub enum Schedule {
 }
 
 // Where a broadcast's copy stands.
-#[derive(Clone, Copy)]
+#[derive(Clone, Copy, PartialEq, Eq)]
 pub enum CopyState {
     Idle,
     CopyQueued,
     CopyTransmitting,
 }
 
-#[derive(Clone, Copy)]
+#[derive(Clone, Copy, PartialEq, Eq)]
 pub struct Broadcast {
     pub id: u32,
     pub frame: u32,
@@ -135,7 +135,7 @@ pub struct Broadcast {
 }
 
 // The settings that a call reads: two times in milliseconds, a unicast's retries, and a destination's discoveries.
-#[derive(Clone, Copy)]
+#[derive(Clone, Copy, PartialEq, Eq)]
 pub struct Settings {
     pub handoff_timeout: u32,
     pub persistence_time: u32,
@@ -144,14 +144,14 @@ pub struct Settings {
 }
 
 // What the radio reports of a transmit.
-#[derive(Clone, Copy)]
+#[derive(Clone, Copy, PartialEq, Eq)]
 pub enum TxResult {
     Sent,
     Failed(u16),
 }
 
 // A failure that a table decides on.
-#[derive(Clone, Copy)]
+#[derive(Clone, Copy, PartialEq, Eq)]
 pub enum SendFailure {
     HandoffTimeout,
     ApsAckTimeout,
@@ -162,7 +162,7 @@ pub enum SendFailure {
 }
 
 // How a send ended: well, by a failure of the tables, or with the radio's or the resolver's code.
-#[derive(Clone, Copy)]
+#[derive(Clone, Copy, PartialEq, Eq)]
 pub enum Verdict {
     Success,
     Failure(SendFailure),
@@ -170,7 +170,7 @@ pub enum Verdict {
 }
 
 // What a send is known by for its whole life: its id and the two handles that it came with.
-#[derive(Clone, Copy)]
+#[derive(Clone, Copy, PartialEq, Eq)]
 pub struct Entry {
     pub id: u32,
     pub waiter: u32,
@@ -179,14 +179,14 @@ pub struct Entry {
 
 // What the driver must do after a call: tell the waiter of a send, by id, that the mesh took it; or that it is over, and at
 // which next hop its attempts ran out.
-#[derive(Clone, Copy)]
+#[derive(Clone, Copy, PartialEq, Eq)]
 pub enum Action {
     HandedOff(u32, u32),
     Settled(Entry, Verdict, Option<u16>),
 }
 
 // Why a call or a trace is refused, in the order of the numbers 1 to 16.
-#[derive(Clone, Copy)]
+#[derive(Clone, Copy, PartialEq, Eq)]
 pub enum Refusal {
     TimeTooLate,
     IdsExhausted,

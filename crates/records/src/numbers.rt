@@ -55,16 +55,8 @@ pub fn verdict_address(v: Verdict) -> Address
     ensures { result ≡ verdict_address v }
 {
     match v {
-        Verdict::Success => Address::Absent,
-        Verdict::Failure(f) => match f {
-            SendFailure::HandoffTimeout => Address::Absent,
-            SendFailure::ApsAckTimeout => Address::Absent,
-            SendFailure::IndirectExpired(a) => a,
-            SendFailure::RouteDiscoveryTimeout => Address::Absent,
-            SendFailure::BroadcastQuorumNotReached => Address::Absent,
-            SendFailure::Cancelled => Address::Absent,
-        },
-        Verdict::Code(_) => Address::Absent,
+        Verdict::Failure(SendFailure::IndirectExpired(a)) => a,
+        _ => Address::Absent,
     }
 }
 
@@ -73,9 +65,8 @@ pub fn verdict_code(v: Verdict) -> u16
     ensures { result ≡ verdict_code v }
 {
     match v {
-        Verdict::Success => 0,
-        Verdict::Failure(_) => 0,
         Verdict::Code(c) => c,
+        Verdict::Success | Verdict::Failure(_) => 0,
     }
 }
 
