@@ -10,23 +10,12 @@ use borrow.Author.Tests.{ne_eqb}
 use Rattle.records.specs.Pick.{pick, bit}
 use Rattle.records.specs.Priorities.{rank_of}
 use Rattle.codes.specs.Types.{Priority, Background, UserLow, UserNormal, UserHigh, UserCritical, StackCritical, Address, Absent, Short, Extended, Stage, Queued, Transmitting, Retrying, AwaitingPoll, AwaitingApsAck, CopyState, Idle, CopyQueued, CopyTransmitting, Schedule, Once, PassiveAck, FixedInterval, QuorumKey, AckKey, OnHandoff, ApsAck}
-use Rattle.codes.specs.Codes.{Coded, opt8_word, opt8_from, opt16_word, opt16_from, opt32_word, opt32_from, priority_from, flag, address_tag, CodedAddress, stage_tag, stage_time, stage_from, copy_tag, copy_from, quorum_word, quorum_from, schedule_tag, CodedSchedule, ack_first, ack_second, ack_key_from, confirm_from, CodedConfirm}
+use Rattle.codes.specs.Codes.{Coded, opt_word, opt_from, opt8_word, opt8_from, opt16_word, opt16_from, opt32_word, opt32_from, priority_from, flag, address_tag, CodedAddress, stage_tag, stage_time, stage_from, copy_tag, copy_from, quorum_word, quorum_from, schedule_tag, CodedSchedule, ack_first, ack_second, ack_key_from, confirm_from, CodedConfirm}
 
--- ---- optional numbers, over the width and what is made of them
+-- ---- optional numbers
 
-optional : {A : Type 0} (none : A) (some : ℕ → A) (m x : ℕ) → x < m → pick (eqb (x + 1) 0) none (some ((x + 1 - 1) % m)) ≡ some x
-optional none some m x h =
-    let e : x + 1 - 1 ≡ x = omega arith in
-    rw (ne_eqb (x + 1) 0 (λ q. omega arith), e) (ap some (mod-eq_of_lt h))
-
-pub coded8 : (x : ℕ) → x < 256 → Coded opt8_word opt8_from 512 (Some x) (x + 1)
-coded8 x h = record { is = refl; low = omega arith; back = optional None Some 256 x h }
-
-pub coded16 : (x : ℕ) → x < 65536 → Coded opt16_word opt16_from 131072 (Some x) (x + 1)
-coded16 x h = record { is = refl; low = omega arith; back = optional None Some 65536 x h }
-
-pub coded32 : (x : ℕ) → x < 4294967296 → Coded opt32_word opt32_from 8589934592 (Some x) (x + 1)
-coded32 x h = record { is = refl; low = omega arith; back = optional None Some 4294967296 x h }
+pub coded-none : {A : Type 0} (number : A → ℕ) (value : ℕ → A) (size : ℕ) → 0 < size → Coded (opt_word number) (opt_from value) (2 * size) None 0
+coded-none number value size h = record { is = refl; low = omega arith; back = refl }
 
 -- ---- levels, flags, tags
 

@@ -11,28 +11,33 @@ pub record Coded {A : Type 0} (word : A → ℕ) (from : ℕ → A) (limit : ℕ
   pub low : word a < limit
   pub back : from (word a) ≡ a
 
--- ---- optional numbers: 0 where absent, else one more
+-- ---- optional numbers: 0 where absent, else one more; over what the number is and which value a number says
+
+module _ {A : Type 0} where
+  abbrev pub opt_word : (A → ℕ) → Option A → ℕ
+  opt_word number None = 0
+  opt_word number (Some x) = number x + 1
+
+  abbrev pub opt_from : (ℕ → A) → ℕ → Option A
+  opt_from value x = pick (eqb x 0) None (Some (value (x - 1)))
 
 abbrev pub opt8_word : Option ℕ → ℕ
-opt8_word None = 0
-opt8_word (Some x) = x + 1
+opt8_word = opt_word (λ x. x)
 
 abbrev pub opt8_from : ℕ → Option ℕ
-opt8_from x = pick (eqb x 0) None (Some ((x - 1) % 256))
+opt8_from = opt_from (λ x. x % 256)
 
 abbrev pub opt16_word : Option ℕ → ℕ
-opt16_word None = 0
-opt16_word (Some x) = x + 1
+opt16_word = opt_word (λ x. x)
 
 abbrev pub opt16_from : ℕ → Option ℕ
-opt16_from x = pick (eqb x 0) None (Some ((x - 1) % 65536))
+opt16_from = opt_from (λ x. x % 65536)
 
 abbrev pub opt32_word : Option ℕ → ℕ
-opt32_word None = 0
-opt32_word (Some x) = x + 1
+opt32_word = opt_word (λ x. x)
 
 abbrev pub opt32_from : ℕ → Option ℕ
-opt32_from x = pick (eqb x 0) None (Some ((x - 1) % 4294967296))
+opt32_from = opt_from (λ x. x % 4294967296)
 
 -- ---- levels and flags
 

@@ -2,67 +2,117 @@
 // the layouts of records and actions in words alone.
 #![tactic(auto)]
 
-ghost use Rattle.std.specs.Prelude.{◌≡◌};
+ghost use Rattle.std.specs.Prelude.{◌≡◌, ℕ, ◌<◌, ◌≤◌, ◌*◌, ◌%◌};
 ghost use Rattle.records.specs.Pick.{bit};
-ghost use Rattle.codes.specs.Codes.{opt8_word, opt8_from, opt16_word, opt16_from, opt32_word, opt32_from, priority_from, address_tag, address_from, stage_tag, stage_time, stage_from, copy_tag, copy_from, schedule_tag, schedule_next, schedule_from, quorum_word, quorum_from, ack_key_from, confirm_from, Coded, CodedAddress, CodedCopies, CodedSchedule, CodedConfirm};
+ghost use Rattle.codes.specs.Codes.{opt_word, opt_from, priority_from, address_tag, address_from, stage_tag, stage_time, stage_from, copy_tag, copy_from, schedule_tag, schedule_next, schedule_from, quorum_word, quorum_from, ack_key_from, confirm_from, Coded, CodedAddress, CodedCopies, CodedSchedule, CodedConfirm};
 ghost use Rattle.codes.specs.Types.{ApsAck};
+ghost use Rattle.std.proofs.Common.{rules, mod-eq_of_lt};
 
 use records::{AckKey, Address, Confirm, CopyState, Priority, QuorumKey, Schedule, Stage};
 
 // ---- optional numbers: 0 where absent, else one more
 
-pub fn opt8_word(o: Option<u8>) -> u64
-    ensures { Coded opt8_word opt8_from 512 o result }
+// A number of which one more still fits a word. `number` is what it is, and `value` the one that a word says.
+pub trait Narrow: Copy {
+    ghost size: { ℕ };
+
+    ghost number: { Self → ℕ };
+
+    ghost value: { ℕ → Self };
+
+    fn widen(self) -> u64
+        ensures is { result ≡ number self }
+        ensures low { result < size };
+
+    fn narrow(x: u64) -> Self
+        ensures { result ≡ value x };
+
+    ghost some: { 0 < size };
+
+    ghost fits: { size ≤ 4294967296 };
+
+    ghost back: { (x : Self) → number x < size → value (number x) ≡ x };
+}
+
+impl Narrow for u8 {
+    ghost size = { 256 };
+
+    ghost number = { λ x. x };
+
+    ghost value = { λ x. x % 256 };
+
+    fn widen(self) -> u64 {
+        self as u64
+    }
+
+    fn narrow(x: u64) -> u8 {
+        (x % 256) as u8
+    }
+
+    ghost some = { Prim.search rules };
+
+    ghost fits = { Prim.search rules };
+
+    ghost back = { λ x h. mod-eq_of_lt h };
+}
+
+impl Narrow for u16 {
+    ghost size = { 65536 };
+
+    ghost number = { λ x. x };
+
+    ghost value = { λ x. x % 65536 };
+
+    fn widen(self) -> u64 {
+        self as u64
+    }
+
+    fn narrow(x: u64) -> u16 {
+        (x % 65536) as u16
+    }
+
+    ghost some = { Prim.search rules };
+
+    ghost fits = { Prim.search rules };
+
+    ghost back = { λ x h. mod-eq_of_lt h };
+}
+
+impl Narrow for u32 {
+    ghost size = { 4294967296 };
+
+    ghost number = { λ x. x };
+
+    ghost value = { λ x. x % 4294967296 };
+
+    fn widen(self) -> u64 {
+        self as u64
+    }
+
+    fn narrow(x: u64) -> u32 {
+        (x % 4294967296) as u32
+    }
+
+    ghost some = { Prim.search rules };
+
+    ghost fits = { Prim.search rules };
+
+    ghost back = { λ x h. mod-eq_of_lt h };
+}
+
+pub fn opt_word<T: Narrow>(o: Option<T>) -> u64
+    ensures { Coded (opt_word T.number) (opt_from T.value) (2 * T.size) o result }
 {
     match o {
         None => 0,
-        Some(x) => x as u64 + 1,
+        Some(x) => x.widen() + 1,
     }
 }
 
-pub fn opt8_of(x: u64) -> Option<u8>
-    ensures { result ≡ opt8_from x }
+pub fn opt_of<T: Narrow>(x: u64) -> Option<T>
+    ensures { result ≡ opt_from T.value x }
 {
-    if x == 0 {
-        return None;
-    }
-    Some(((x - 1) % 256) as u8)
-}
-
-pub fn opt16_word(o: Option<u16>) -> u64
-    ensures { Coded opt16_word opt16_from 131072 o result }
-{
-    match o {
-        None => 0,
-        Some(x) => x as u64 + 1,
-    }
-}
-
-pub fn opt16_of(x: u64) -> Option<u16>
-    ensures { result ≡ opt16_from x }
-{
-    if x == 0 {
-        return None;
-    }
-    Some(((x - 1) % 65536) as u16)
-}
-
-pub fn opt32_word(o: Option<u32>) -> u64
-    ensures { Coded opt32_word opt32_from 8589934592 o result }
-{
-    match o {
-        None => 0,
-        Some(x) => x as u64 + 1,
-    }
-}
-
-pub fn opt32_of(x: u64) -> Option<u32>
-    ensures { result ≡ opt32_from x }
-{
-    if x == 0 {
-        return None;
-    }
-    Some(((x - 1) % 4294967296) as u32)
+    if x == 0 { None } else { Some(T::narrow(x - 1)) }
 }
 
 // ---- levels and flags
@@ -83,7 +133,7 @@ pub fn priority_of(rank: u64) -> Priority
 pub fn flag_word(b: bool) -> u64
     ensures { result ≡ bit b }
 {
-    if b { 1 } else { 0 }
+    u64::from(b)
 }
 
 // ---- addresses: a tag and a word
@@ -136,11 +186,8 @@ pub fn stage_time(s: Stage) -> u64
     ensures { result ≡ stage_time s }
 {
     match s {
-        Stage::Queued => 0,
-        Stage::Transmitting(_) => 0,
         Stage::Retrying(at) => at,
-        Stage::AwaitingPoll => 0,
-        Stage::AwaitingApsAck => 0,
+        _ => 0,
     }
 }
 
@@ -184,16 +231,8 @@ pub fn schedule_tag(s: Schedule) -> u64
 {
     match s {
         Schedule::Once => 0,
-        Schedule::PassiveAck {
-            key: _,
-            copies_remaining: _,
-            next_attempt: _,
-        } => 1,
-        Schedule::FixedInterval {
-            interval: _,
-            copies_remaining: _,
-            next_attempt: _,
-        } => 2,
+        Schedule::PassiveAck { .. } => 1,
+        Schedule::FixedInterval { .. } => 2,
     }
 }
 
@@ -203,14 +242,12 @@ pub fn schedule_copies(s: Schedule) -> u64
     match s {
         Schedule::Once => 0,
         Schedule::PassiveAck {
-            key: _,
             copies_remaining,
-            next_attempt: _,
-        } => copies_remaining as u64,
-        Schedule::FixedInterval {
-            interval: _,
+            ..
+        }
+        | Schedule::FixedInterval {
             copies_remaining,
-            next_attempt: _,
+            ..
         } => copies_remaining as u64,
     }
 }
@@ -220,16 +257,8 @@ pub fn schedule_next(s: Schedule) -> u64
 {
     match s {
         Schedule::Once => 0,
-        Schedule::PassiveAck {
-            key: _,
-            copies_remaining: _,
+        Schedule::PassiveAck { next_attempt, .. } | Schedule::FixedInterval { next_attempt, .. } =>
             next_attempt,
-        } => next_attempt,
-        Schedule::FixedInterval {
-            interval: _,
-            copies_remaining: _,
-            next_attempt,
-        } => next_attempt,
     }
 }
 
@@ -245,16 +274,8 @@ pub fn schedule_what(s: Schedule) -> u64
 {
     match s {
         Schedule::Once => 0,
-        Schedule::PassiveAck {
-            key,
-            copies_remaining: _,
-            next_attempt: _,
-        } => quorum_word(key),
-        Schedule::FixedInterval {
-            interval,
-            copies_remaining: _,
-            next_attempt: _,
-        } => interval as u64,
+        Schedule::PassiveAck { key, .. } => quorum_word(key),
+        Schedule::FixedInterval { interval, .. } => interval as u64,
     }
 }
 
@@ -301,9 +322,8 @@ pub fn ack_words(k: AckKey, wait: u32) -> Two
     let p = k.profile_id;
     let s = k.source_endpoint;
     Two {
-        first: k.src as u64
-            + 65536 * (opt8_word(d) + 512 * (opt16_word(c) + 131072 * opt16_word(p))),
-        second: 1 + 2 * (opt8_word(s) + 512 * (k.counter as u64 + 256 * (wait as u64))),
+        first: k.src as u64 + 65536 * (opt_word(d) + 512 * (opt_word(c) + 131072 * opt_word(p))),
+        second: 1 + 2 * (opt_word(s) + 512 * (k.counter as u64 + 256 * (wait as u64))),
     }
 }
 
@@ -322,10 +342,10 @@ pub fn confirm_words(c: Confirm) -> Two
 pub fn ack_key_of(first: u64, second: u64) -> AckKey
     ensures { result ≡ ack_key_from first second }
 {
-    let d = opt8_of(first / 65536 % 512);
-    let c = opt16_of(first / 33554432 % 131072);
-    let p = opt16_of(first / 4398046511104 % 131072);
-    let s = opt8_of(second / 2 % 512);
+    let d = opt_of(first / 65536 % 512);
+    let c = opt_of(first / 33554432 % 131072);
+    let p = opt_of(first / 4398046511104 % 131072);
+    let s = opt_of(second / 2 % 512);
     AckKey {
         src: (first % 65536) as u16,
         destination_endpoint: d,
