@@ -32,12 +32,6 @@ pub free-none : (o : Option ℕ) (i k : ℕ) → Free i ≡ spot_at o k → (o �
 free-none None i k e = (refl, cc)
 free-none (Some j) i k e = let z : ◌≡◌ {A = ℕ} 0 1 = cc in absurd (omega arith)
 
-pub slot-shut : (room n i : ℕ) (s : Spot) → Free i ≡ s → room ≤ n → Shut ≡ slot_of room n s
-slot-shut room n i s e h = sym (ap (λ (b : Bool). pick b Shut (New i)) (le-leb room n h)) ∙ ap (slot_of room n) e
-
-pub slot-new : (room n i : ℕ) (s : Spot) → Free i ≡ s → n < room → New i ≡ slot_of room n s
-slot-new room n i s e h = sym (ap (λ (b : Bool). pick b Shut (New i)) (lt-leb room n h)) ∙ ap (slot_of room n) e
-
 -- the three slots, by what was found
 pub over-some : (o : Option ℕ) (p room n i : ℕ) → Over i ≡ slot_of room n (spot_at o p) → o ≡ Some i
 over-some None p room n i e = go (leb room n) e

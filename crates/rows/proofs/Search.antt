@@ -46,11 +46,6 @@ module _ {width n : ℕ} {ws : List ℕ} (s : Searched width n ws) where
   pub search-le : (key : ℕ) → place_of first_word key rows ≤ n
   search-le key = omega (arith, place-le first_word key rows, length-rows width itself n ws)
 
-  pub row_fits : (i : ℕ) → i < n → i * width < length ws
-  row_fits i h =
-      let m : suc i * width ≤ n * width = mul-le-mul_right width h in
-      omega (arith, s.wide, s.there, suc-mul i width)
-
   first-word : (i : ℕ) → i < n → first_word (get_or rows i []) ≡ get_or ws (i * width) 0
   first-word i h =
       ap first_word (row_at width itself n ws i [] h) ∙ word_at width ws (i * width) 0 s.wide ∙ ap (λ (j : ℕ). get_or ws j 0) (add-zero (i * width))

@@ -22,51 +22,15 @@ pub enum Slot {
     New(usize),
 }
 
-// The words from `from` on go to `to`, which is not behind them.
-fn copy_down(w: &mut [u64], to: usize, from: usize, count: usize)
-    requires { (to ≤ from) × (from + count ≤ length w.old) }
-    ensures { w.new ≡ moved to from count w.old }
-{
-    let mut j: usize = 0;
-    while j < count {
-        w[to + j] = w[from + j];
-        j = j + 1;
-    }
-}
-
-// The words from `from` on go to `to`, which is not before them: the last goes first.
-fn copy_up(w: &mut [u64], to: usize, from: usize, count: usize)
-    requires { (from ≤ to) × (to + count ≤ length w.old) }
-    ensures { w.new ≡ moved to from count w.old }
-{
-    let mut j = count;
-    while 0 < j {
-        w[to + j - 1] = w[from + j - 1];
-        j = j - 1;
-    }
-}
-
-fn clear(w: &mut [u64], from: usize, count: usize)
-    requires { from + count ≤ length w.old }
-    ensures { w.new ≡ sets w.old from (replicate count 0) }
-{
-    let mut j: usize = 0;
-    while j < count {
-        w[from + j] = 0;
-        j = j + 1;
-    }
-}
-
 // Row i of n is taken out: the later ones move down, and the last place is cleared.
 pub fn close(w: &mut [u64], width: usize, n: usize, i: usize)
     requires { (i < n) × (n * width ≤ length w.old) }
     ensures { w.new ≡ closed width n i w.old }
 {
-    let last = n - 1;
+    let end = n * width;
     let to = i * width;
-    let count = (last - i) * width;
-    copy_down(w, to, to + width, count);
-    clear(w, to + count, width);
+    w.copy_within(to + width..end, to);
+    w[end - width..end].fill(0);
 }
 
 // A place is made at row i of n: the rows from there on move up.
@@ -75,15 +39,16 @@ pub fn open(w: &mut [u64], width: usize, n: usize, i: usize)
     ensures { w.new ≡ opened width n i w.old }
 {
     let from = i * width;
-    copy_up(w, from + width, from, (n - i) * width);
+    w.copy_within(from..n * width, from + width);
 }
 
-// How many of the first n rows have a key below `key`: where a row with that key stands, or would.
+// How many of the first n rows have a key below `key`: where a row with that key stands, or would. A slice's own
+// `partition_point` looks at elements one by one, and a row is several words, so the search is written out.
 pub fn below(w: &[u64], width: usize, n: usize, key: u64) -> usize
     requires { Searched width n w.now }
     ensures { result ≡ place_of first_word key (rows_from width itself n w.now) }
 {
-    let mut lo: usize = 0;
+    let mut lo = 0;
     let mut hi = n;
     while lo < hi {
         let mid = lo + (hi - lo) / 2;
@@ -102,10 +67,7 @@ pub fn find(w: &[u64], width: usize, n: usize, key: u64) -> Spot
     ensures { result ≡ spot_in key (rows_from width itself n w.now) }
 {
     let at = below(w, width, n, key);
-    if n <= at {
-        return Spot::Free(at);
-    }
-    if w[at * width] == key {
+    if at < n && w[at * width] == key {
         Spot::Taken(at)
     } else {
         Spot::Free(at)
@@ -131,10 +93,8 @@ pub fn enter(w: &mut [u64], width: usize, room: usize, n: usize, key: u64) -> Sl
 {
     match find(w, width, n, key) {
         Spot::Taken(i) => Slot::Over(i),
+        Spot::Free(_) if room <= n => Slot::Shut,
         Spot::Free(i) => {
-            if room <= n {
-                return Slot::Shut;
-            }
             open(w, width, n, i);
             Slot::New(i)
         }
