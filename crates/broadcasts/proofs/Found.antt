@@ -8,11 +8,11 @@ use mathlib.Core.List.{List, []}
 use lib.ListN.{get_or, set}
 use borrow.Author.Tests.{eq-eqb, ne_eqb}
 use Rattle.records.specs.Records.{blank_broadcast, broadcast_id, broadcast_entry}
-use Rattle.rows.specs.Lists.{find_by, lookup, place_at}
+use Rattle.rows.specs.Lists.{find_by, lookup}
 use Rattle.rows.specs.Tables.{rows_of, live, Held, Holds}
 use Rattle.rows.specs.Moves.{Turn, first_at, has_id}
 use Rattle.rows.specs.Moves.Turn.{Keeps}
-use Rattle.rows.proofs.Promises.{here-some, nowhere-none, hit-lt, hit-lookup, miss-lookup, find_first}
+use Rattle.rows.proofs.Promises.{hit-lt, hit-lookup, miss-lookup, find_first}
 use Rattle.tables.specs.Layouts.{broadcast_table}
 use Rattle.actions.specs.Calls.{Played}
 use Rattle.actions.proofs.Sweeps.{turn-found, turn-missed}
@@ -54,12 +54,12 @@ module _ (u : Broadcast) where
 
 module _ {ws : List ℕ} {n : ℕ} (h : Held broadcast_table ws n) (id : ℕ) where
   -- there is None
-  module _ (e : None ≡ place_at (find_by broadcast_id id (live broadcast_table ws n))) where
+  module _ (e : None ≡ find_by broadcast_id id (live broadcast_table ws n)) where
     pub missed-is : lookup broadcast_id id (live broadcast_table ws n) ≡ None
-    missed-is = miss-lookup h id (nowhere-none _ e)
+    missed-is = miss-lookup h id (sym e)
 
     pub missed_first : first_at (has_id broadcast_entry id) (live broadcast_table ws n) ≡ None
-    missed_first = sym (find_first broadcast_id id (live broadcast_table ws n)) ∙ nowhere-none _ e
+    missed_first = sym (find_first broadcast_id id (live broadcast_table ws n)) ∙ sym e
 
     pub missed-answer : {bar : Option Broadcast → Option Refusal} {f : Broadcast → Turn Broadcast} {buf : List ℕ} {m : ℕ} → bar None ≡ Some NoSuchSend
         → Answered id bar f ws n buf m ws buf (Refused NoSuchSend)
@@ -70,16 +70,16 @@ module _ {ws : List ℕ} {n : ℕ} (h : Held broadcast_table ws n) (id : ℕ) wh
         record { answer = sym (ap lent_of missed-is); table = (turn-missed {entry = broadcast_entry} h (has_id broadcast_entry id) dequeue_turn {buf = []} {m = 0} missed_first).table }
 
   -- it stands at place i, and is u
-  module _ {i : ℕ} (e : Some i ≡ place_at (find_by broadcast_id id (live broadcast_table ws n))) where
+  module _ {i : ℕ} (e : Some i ≡ find_by broadcast_id id (live broadcast_table ws n)) where
     pub found_lt : i < n
-    found_lt = hit-lt h id i (here-some _ i e)
+    found_lt = hit-lt h id i (sym e)
 
     pub found_first : first_at (has_id broadcast_entry id) (live broadcast_table ws n) ≡ Some i
-    found_first = sym (find_first broadcast_id id (live broadcast_table ws n)) ∙ here-some _ i e
+    found_first = sym (find_first broadcast_id id (live broadcast_table ws n)) ∙ sym e
 
     module _ {u : Broadcast} (l : u ≡ get_or (rows_of broadcast_table ws) i blank_broadcast) where
       pub found-is : lookup broadcast_id id (live broadcast_table ws n) ≡ Some u
-      found-is = hit-lookup h id i (here-some _ i e) ∙ ap Some (sym l)
+      found-is = hit-lookup h id i (sym e) ∙ ap Some (sym l)
 
       pub barred : {bar : Option Broadcast → Option Refusal} {f : Broadcast → Turn Broadcast} {buf : List ℕ} {m : ℕ} {x : Refusal} → bar (Some u) ≡ Some x
           → Answered id bar f ws n buf m ws buf (Refused x)

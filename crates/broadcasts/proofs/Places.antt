@@ -9,10 +9,9 @@ use mathlib.Core.List.{List}
 use borrow.Author.Tests.{lt-leb, le-leb}
 use Rattle.records.specs.Priorities.{rank_of}
 use Rattle.records.specs.Records.{blank_broadcast}
-use Rattle.rows.specs.Lists.{place_at}
 use Rattle.rows.specs.Moves.{first_at, any_of}
 use Rattle.rows.specs.Moves.Turn.{Keeps}
-use Rattle.rows.proofs.Promises.{here-some, nowhere-none, first_found, first-missed}
+use Rattle.rows.proofs.Promises.{first_found, first-missed}
 use Rattle.tables.specs.Layouts.{broadcast_head}
 use Rattle.casting.specs.Types.{CopyState, Broadcast, BroadcastHead}
 use Rattle.casting.specs.Rules.{ready_by, ready, better, best_head, copy_due, may_stir}
@@ -22,11 +21,11 @@ pub said : {q r x : Bool} → r ≡ q → r ≡ x → q ≡ x
 said e f = sym e ∙ f
 
 module _ (q : Broadcast → Bool) (bs : List Broadcast) where
-  pub any-there : {i : ℕ} → Some i ≡ place_at (first_at q bs) → true ≡ any_of q bs
-  any-there {i} e = sym (first_found q Keeps blank_broadcast bs i (here-some _ i e)).any
+  pub any-there : {i : ℕ} → Some i ≡ first_at q bs → true ≡ any_of q bs
+  any-there {i} e = sym (first_found q Keeps blank_broadcast bs i (sym e)).any
 
-  pub any_none : None ≡ place_at (first_at q bs) → false ≡ any_of q bs
-  any_none e = sym (first-missed q Keeps bs (nowhere-none _ e)).any
+  pub any_none : None ≡ first_at q bs → false ≡ any_of q bs
+  any_none e = sym (first-missed q Keeps bs (sym e)).any
 
 module _ (now : ℕ) (b : Broadcast) (o : Option (ℕ × ℕ)) {c : CopyState} {d : ℕ} {x : Bool} (e : c ≡ b.copy) (p : d ≡ b.deadline) (g : x ≡ ready_by now c d) where
   readied : {y : Bool} → x ≡ y → ready now b ≡ y

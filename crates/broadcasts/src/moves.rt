@@ -2,7 +2,6 @@
 ghost use Rattle.std.specs.Prelude.{◌≡◌, ◌+◌, ◌*◌, ◌≤◌, ◌<◌, [], get_or};
 ghost use Rattle.records.specs.Limits.{last_time};
 ghost use Rattle.records.specs.Records.{blank_broadcast, broadcast_entry};
-ghost use Rattle.rows.specs.Lists.{place_at};
 ghost use Rattle.rows.specs.Tables.{rows_of, live, Held, Holds, Entered};
 ghost use Rattle.rows.specs.Moves.{first_at};
 ghost use Rattle.tables.specs.Layouts.{broadcast_table};
@@ -144,7 +143,7 @@ pub fn cancel(w: &mut [u64; 112], n: usize, told: &mut [u64; 560], m: usize, id:
 // Where the oldest broadcast that waits for that quorum stands.
 pub fn first_keyed(w: &[u64; 112], n: usize, key: QuorumKey) -> Option<usize>
     requires { Held broadcast_table w.now n }
-    ensures { result ≡ place_at (first_at (keyed key) (live broadcast_table w.now n)) }
+    ensures { result ≡ first_at (keyed key) (live broadcast_table w.now n) }
 {
     let mut i: usize = 0;
     while i < n {

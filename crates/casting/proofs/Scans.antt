@@ -7,11 +7,10 @@ use mathlib.Core.Bool.{Bool}
 use mathlib.Core.List.{List, []}
 use lib.ListN.{length, drop, get_or}
 use Rattle.records.specs.Records.{blank_broadcast}
-use Rattle.rows.specs.Lists.{place_at}
 use Rattle.rows.specs.Tables.{rows_of, live, Held}
 use Rattle.rows.specs.Moves.{first_at}
 use Rattle.rows.specs.Moves.Turn.{Keeps}
-use Rattle.rows.proofs.Promises.{here-some, held-length, length-rows_of, live-cons, live-done, first_found}
+use Rattle.rows.proofs.Promises.{held-length, length-rows_of, live-cons, live-done, first_found}
 use Rattle.tables.specs.Layouts.{broadcast_table, broadcast_head}
 use Rattle.casting.specs.Types.{Broadcast, BroadcastHead, QuorumKey, Schedule}
 use Rattle.casting.specs.Rules.{keyed_by, keyed, stirs_head, awaited_head, listed, awaited_of}
@@ -20,8 +19,8 @@ abbrev pub row_at : List ℕ → ℕ → Broadcast
 row_at ws i = get_or (rows_of broadcast_table ws) i blank_broadcast
 
 -- what was found by a scan is live
-pub scanned-lt : {ws : List ℕ} {n i : ℕ} (h : Held broadcast_table ws n) (q : Broadcast → Bool) → Some i ≡ place_at (first_at q (live broadcast_table ws n)) → i < n
-scanned-lt {ws} {n} {i} h q e = omega (arith, (first_found q Keeps blank_broadcast (live broadcast_table ws n) i (here-some _ i e)).there, held-length h)
+pub scanned-lt : {ws : List ℕ} {n i : ℕ} (h : Held broadcast_table ws n) (q : Broadcast → Bool) → Some i ≡ first_at q (live broadcast_table ws n) → i < n
+scanned-lt {ws} {n} {i} h q e = omega (arith, (first_found q Keeps blank_broadcast (live broadcast_table ws n) i (sym e)).there, held-length h)
 
 pub key-tested : (b : Broadcast) {s : Schedule} {r x : Bool} → s ≡ b.schedule → (k : QuorumKey) → r ≡ keyed_by k s → r ≡ x → keyed k b ≡ x
 key-tested b is k e t = sym (e ∙ ap (keyed_by k) is) ∙ t

@@ -7,10 +7,10 @@ use mathlib.Core.List.{List}
 use lib.Dec.{eqb}
 use Rattle.records.specs.Pick.{pick}
 use Rattle.records.specs.declared.Refusal.TheVariants.{InTheRadio}
-use Rattle.rows.specs.Lists.{find_by, place_at}
+use Rattle.rows.specs.Lists.{find_by}
 use Rattle.rows.specs.Moves.{Turn, any_of}
 use Rattle.rows.specs.Moves.Turn.{Keeps}
-use Rattle.rows.proofs.Promises.{here-some, nowhere-none, find_first, first_found, first-missed}
+use Rattle.rows.proofs.Promises.{find_first, first_found, first-missed}
 use Rattle.sending.specs.Rules.{sent_copy}
 use Rattle.casting.specs.declared.Outcome as casts
 use Rattle.broadcasts.specs.Calls.{Answered}
@@ -34,12 +34,12 @@ module _ {bar : Option Broadcast → Option Refusal} {f : Broadcast → Turn Bro
   answered-as x e = subst (λ (y : casts.Outcome). Answered id bar f bs n buf m bs' buf' y) e h
 
 -- whether a search found a record is whether there is one
-module _ {A : Type 0} (key : A → ℕ) (k : ℕ) (xs : List A) {p : Option ℕ} (e : p ≡ place_at (find_by key k xs)) where
+module _ {A : Type 0} (key : A → ℕ) (k : ℕ) (xs : List A) {p : Option ℕ} (e : p ≡ find_by key k xs) where
   pub found-any : (d : A) (i : ℕ) → p ≡ Some i → any_of (λ (x : A). eqb (key x) k) xs ≡ true
-  found-any d i h = (first_found (λ (x : A). eqb (key x) k) Keeps d xs i (sym (find_first key k xs) ∙ here-some _ i (sym h ∙ e))).any
+  found-any d i h = (first_found (λ (x : A). eqb (key x) k) Keeps d xs i (sym (find_first key k xs) ∙ (sym e)) ∙ h).any
 
   pub missed-any : p ≡ None → any_of (λ (x : A). eqb (key x) k) xs ≡ false
-  missed-any h = (first-missed (λ (x : A). eqb (key x) k) Keeps xs (sym (find_first key k xs) ∙ nowhere-none _ (sym h ∙ e))).any
+  missed-any h = (first-missed (λ (x : A). eqb (key x) k) Keeps xs (sym (find_first key k xs) ∙ (sym e)) ∙ h).any
 
 -- a copy in the radio bars a cancel of the broadcast, where there is one; without one its own stage decides
 pub cast-sent : (id : ℕ) (us : List Unicast) (b : Broadcast) → any_of (sent_copy id) us ≡ true → cast_bar id us (Some b) ≡ Some InTheRadio

@@ -16,7 +16,7 @@ use Rattle.rows.specs.declared.Spot.{Spot}
 use Rattle.rows.specs.declared.Spot.TheVariants.{Taken, Free}
 use Rattle.rows.specs.declared.Slot.{Slot}
 use Rattle.rows.specs.declared.Slot.TheVariants.{Shut, Over, New}
-use Rattle.rows.specs.Lists.{remove_at, place_of, find_by, insert_by, remove_by, spot_at, place_at}
+use Rattle.rows.specs.Lists.{remove_at, place_of, find_by, insert_by, remove_by, spot_at}
 use Rattle.rows.specs.Rows.{rows_from, itself, first_word, spot_in, place_of_spot, slot_of, slot_words, left_count, left_words, Searched, Slotted, Unslotted, opened}
 use Rattle.rows.specs.Tables.{Table, live, Held, Holds, Stands, Entered, Put}
 use Rattle.rows.proofs.Search.{search-le}
@@ -57,7 +57,7 @@ shut_none None p room n e = go (leb room n) refl e
     go false f e = let z : ◌≡◌ {A = ℕ} 0 1 = cc in absurd (omega arith)
 shut_none (Some j) p room n e = let z : ◌≡◌ {A = ℕ} 0 1 = cc in absurd (omega arith)
 
-place-of : (o : Option ℕ) (p : ℕ) → place_of_spot (spot_at o p) ≡ place_at o
+place-of : (o : Option ℕ) (p : ℕ) → place_of_spot (spot_at o p) ≡ o
 place-of None p = refl
 place-of (Some i) p = refl
 
@@ -115,7 +115,7 @@ module _ {A : Type 0} {t : Table A} (l : Lawful t) {ws : List ℕ} {n : ℕ} (h 
 
   -- ---- the same, of what the search of words answers
 
-  pub sought : (k : ℕ) (r : Option ℕ) → r ≡ place_of_spot (spot_in k (rows_from t.layout.width itself n ws)) → r ≡ place_at (find_by t.key k (live t ws n))
+  pub sought : (k : ℕ) (r : Option ℕ) → r ≡ place_of_spot (spot_in k (rows_from t.layout.width itself n ws)) → r ≡ find_by t.key k (live t ws n)
   sought k r e = e ∙ ap place_of_spot (held-spot l h k) ∙ place-of (find_by t.key k (live t ws n)) (place_of t.key k (live t ws n))
 
   pub roomy : (n ≤ t.room) × (t.room * t.layout.width ≤ length ws)

@@ -19,7 +19,7 @@ use lib.Dec.{leb, eqb}
 use borrow.Author.Tests.{lt-ltb, le-ltb, eq-eqb, ne_eqb, lt-leb, leb-false}
 use Rattle.records.specs.Pick.{pick, bit}
 use Rattle.records.proofs.Cases.{lt-or-le, eq-or-ne, either, never}
-use Rattle.rows.specs.Lists.{place_of, find_by, lookup, insert_by, remove_by, remove_at, fold, All, Rising, place_at, inserted_of}
+use Rattle.rows.specs.Lists.{place_of, find_by, lookup, insert_by, remove_by, remove_at, fold, All, Rising, inserted_of}
 use Rattle.rows.specs.Tables.{Table, rows_of, live, Held, Holds, Then, Entered}
 use Rattle.rows.specs.Moves.{Turn, kept, told, each, at_first, first_of, first_at, place_from, placed, any_of, count, each_told, at_first_told, id_of, has_id, Same, settled_of}
 use Rattle.rows.specs.Moves.Turn.{Keeps, HandsOff, Settles}
@@ -193,14 +193,6 @@ unfolding rows_of
 length-rows_of t ws = length-rows t.layout.width t.layout.record_of t.room ws
 
 -- what find answers says what was found
-pub here-some : (o : Option ℕ) (i : ℕ) → Some i ≡ place_at o → o ≡ Some i
-here-some None i e = let z : ◌≡◌ {A = ℕ} 0 1 = cc in absurd (omega arith)
-here-some (Some j) i e = cc
-
-pub nowhere-none : (o : Option ℕ) → None ≡ place_at o → o ≡ None
-nowhere-none None e = refl
-nowhere-none (Some j) e = let z : ◌≡◌ {A = ℕ} 0 1 = cc in absurd (omega arith)
-
 module _ {A : Type 0} {t : Table A} {ws : List ℕ} {n : ℕ} (h : Held t ws n) where
   pub held-length : length (live t ws n) ≡ n
   held-length = length-take-le n (rows_of t ws) (omega (arith, length-rows_of t ws, h.within))
@@ -632,8 +624,8 @@ module _ {A : Type 0} where
   -- ---- how code asks: a scan for the first, and a fold from the last
 
   -- the answer of a scan is the place of the first
-  pub scan-first : (q : A → Bool) (xs : List A) → place_from q 0 xs ≡ place_at (first_at q xs)
-  scan-first q xs = from 0 xs ∙ ap place_at (bare (first_at q xs))
+  pub scan-first : (q : A → Bool) (xs : List A) → place_from q 0 xs ≡ first_at q xs
+  scan-first q xs = from 0 xs ∙ bare (first_at q xs)
     where
       bare : (o : Option ℕ) → option_map (λ (j : ℕ). 0 + j) o ≡ o
       bare None = refl
@@ -643,14 +635,14 @@ module _ {A : Type 0} where
       past i None = refl
       past i (Some j) = ap Some (suc-add i j ∙ sym (add-suc i j))
 
-      from : (i : ℕ) (xs : List A) → place_from q i xs ≡ place_at (option_map (λ (j : ℕ). i + j) (first_at q xs))
+      from : (i : ℕ) (xs : List A) → place_from q i xs ≡ option_map (λ (j : ℕ). i + j) (first_at q xs)
       from i [] = refl
       from i (x ∷ xs) = go (q x) (from (suc i) xs)
         where
-          go : (b : Bool) → place_from q (suc i) xs ≡ place_at (option_map (λ (j : ℕ). suc i + j) (first_at q xs))
-              → pick b (Some i) (place_from q (suc i) xs) ≡ place_at (option_map (λ (j : ℕ). i + j) (pick b (Some 0) (option_map suc (first_at q xs))))
+          go : (b : Bool) → place_from q (suc i) xs ≡ option_map (λ (j : ℕ). suc i + j) (first_at q xs)
+              → pick b (Some i) (place_from q (suc i) xs) ≡ option_map (λ (j : ℕ). i + j) (pick b (Some 0) (option_map suc (first_at q xs)))
           go true h = ap Some (sym (add-zero i))
-          go false h = h ∙ ap place_at (past i (first_at q xs))
+          go false h = h ∙ past i (first_at q xs)
 
 module _ {A : Type 0} {t : Table A} {ws : List ℕ} {n : ℕ} (h : Held t ws n) where
   room : n ≤ length (rows_of t ws)

@@ -68,11 +68,6 @@ abbrev pub spot_at : Option ℕ → ℕ → Spot
 spot_at None k = Free k
 spot_at (Some i) k = Taken i
 
--- what find answers
-abbrev pub place_at : Option ℕ → Option ℕ
-place_at None = None
-place_at (Some i) = Some i
-
 -- what insert answers where there would be n records
 abbrev pub inserted_of : ℕ → ℕ → Option ℕ
 inserted_of room n = pick (leb n room) (Some n) None

@@ -2,7 +2,6 @@
 // send's stage and deadline alone where these decide.
 ghost use Rattle.std.specs.Prelude.{◌≡◌, ◌<◌, get_or};
 ghost use Rattle.records.specs.Records.{blank_unicast};
-ghost use Rattle.rows.specs.Lists.{place_at};
 ghost use Rattle.rows.specs.Tables.{rows_of, live, Held};
 ghost use Rattle.rows.specs.Moves.{first_at, any_of};
 ghost use Rattle.tables.specs.Layouts.{unicast_table};
@@ -15,7 +14,7 @@ use sending::Sought;
 // Where the oldest send stands that is sought.
 fn first_such(w: &[u64; 320], n: usize, what: Sought) -> Option<usize>
     requires { Held unicast_table w.now n }
-    ensures { result ≡ place_at (first_at (sought what) (live unicast_table w.now n)) }
+    ensures { result ≡ first_at (sought what) (live unicast_table w.now n) }
 {
     let mut i: usize = 0;
     while i < n {
@@ -30,7 +29,7 @@ fn first_such(w: &[u64; 320], n: usize, what: Sought) -> Option<usize>
 // Where the oldest send stands that an ack with that key confirms, in whatever stage.
 pub fn first_keyed(w: &[u64; 320], n: usize, key: AckKey) -> Option<usize>
     requires { Held unicast_table w.now n }
-    ensures { result ≡ place_at (first_at (keyed key) (live unicast_table w.now n)) }
+    ensures { result ≡ first_at (keyed key) (live unicast_table w.now n) }
 {
     let mut at: usize = 0;
     while at < n {
@@ -58,7 +57,7 @@ fn awaited_at(w: &[u64; 320], at: usize, eui: Option<u64>, nwk: Option<u16>, clo
 // Where the oldest send stands that awaits a poll of the device.
 pub fn first_awaited(w: &[u64; 320], n: usize, eui: Option<u64>, nwk: Option<u16>, clock: u64) -> Option<usize>
     requires { Held unicast_table w.now n }
-    ensures { result ≡ place_at (first_at (awaits eui nwk clock) (live unicast_table w.now n)) }
+    ensures { result ≡ first_at (awaits eui nwk clock) (live unicast_table w.now n) }
 {
     let mut k: usize = 0;
     while k < n {

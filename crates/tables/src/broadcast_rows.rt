@@ -1,7 +1,7 @@
 // The table of broadcasts: 16 places of seven words, by id.
 ghost use Rattle.std.specs.Prelude.{◌≡◌, ◌-◌, ◌<◌, [], get_or, set};
 ghost use Rattle.records.specs.Records.{blank_broadcast, broadcast_id};
-ghost use Rattle.rows.specs.Lists.{find_by, remove_at, remove_by, place_at};
+ghost use Rattle.rows.specs.Lists.{find_by, remove_at, remove_by};
 ghost use Rattle.rows.specs.Tables.{rows_of, live, Held, Holds, Stands, Entered, Put};
 ghost use Rattle.tables.specs.Layouts.{broadcast_from, BroadcastTagged, broadcast_head, broadcast_table};
 
@@ -162,7 +162,7 @@ pub fn store(w: &mut [u64; 112], n: usize, i: usize, u: Broadcast)
 // Where the record with that id stands.
 pub fn find(w: &[u64; 112], n: usize, id: u32) -> Option<usize>
     requires { Held broadcast_table w.now n }
-    ensures { result ≡ place_at (find_by broadcast_id id (live broadcast_table w.now n)) }
+    ensures { result ≡ find_by broadcast_id id (live broadcast_table w.now n) }
 {
     rows::seek(w, 7, n, id as u64)
 }

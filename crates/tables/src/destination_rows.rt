@@ -1,7 +1,7 @@
 // The table of held destinations: 16 places of two words, by address.
 ghost use Rattle.std.specs.Prelude.{◌≡◌, ◌-◌, ◌<◌, [], get_or, set};
 ghost use Rattle.records.specs.Records.{blank_destination, destination_address};
-ghost use Rattle.rows.specs.Lists.{find_by, remove_at, remove_by, place_at};
+ghost use Rattle.rows.specs.Lists.{find_by, remove_at, remove_by};
 ghost use Rattle.rows.specs.Tables.{rows_of, live, Held, Holds, Stands, Entered, Put};
 ghost use Rattle.tables.specs.Layouts.{destination_table};
 
@@ -48,7 +48,7 @@ pub fn store(w: &mut [u64; 32], n: usize, i: usize, u: Destination)
 // Where the record with that address stands.
 pub fn find(w: &[u64; 32], n: usize, address: u16) -> Option<usize>
     requires { Held destination_table w.now n }
-    ensures { result ≡ place_at (find_by destination_address address (live destination_table w.now n)) }
+    ensures { result ≡ find_by destination_address address (live destination_table w.now n) }
 {
     rows::seek(w, 2, n, address as u64)
 }

@@ -1,7 +1,7 @@
 // The table of unicasts: 32 places of ten words, by id.
 ghost use Rattle.std.specs.Prelude.{◌≡◌, ◌-◌, ◌<◌, [], get_or, set};
 ghost use Rattle.records.specs.Records.{blank_unicast, unicast_id};
-ghost use Rattle.rows.specs.Lists.{find_by, remove_at, remove_by, place_at};
+ghost use Rattle.rows.specs.Lists.{find_by, remove_at, remove_by};
 ghost use Rattle.rows.specs.Tables.{rows_of, live, Held, Holds, Stands, Entered, Put};
 ghost use Rattle.tables.specs.Layouts.{unicast_from, UnicastTagged, unicast_head, unicast_table};
 
@@ -182,7 +182,7 @@ pub fn store(w: &mut [u64; 320], n: usize, i: usize, u: Unicast)
 // Where the record with that id stands.
 pub fn find(w: &[u64; 320], n: usize, id: u32) -> Option<usize>
     requires { Held unicast_table w.now n }
-    ensures { result ≡ place_at (find_by unicast_id id (live unicast_table w.now n)) }
+    ensures { result ≡ find_by unicast_id id (live unicast_table w.now n) }
 {
     rows::seek(w, 10, n, id as u64)
 }

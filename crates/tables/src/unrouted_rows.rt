@@ -1,7 +1,7 @@
 // The table of unrouted sends: 16 places of seven words, by id.
 ghost use Rattle.std.specs.Prelude.{◌≡◌, ◌-◌, ◌<◌, [], get_or, set};
 ghost use Rattle.records.specs.Records.{blank_unrouted, unrouted_id};
-ghost use Rattle.rows.specs.Lists.{find_by, remove_at, remove_by, place_at};
+ghost use Rattle.rows.specs.Lists.{find_by, remove_at, remove_by};
 ghost use Rattle.rows.specs.Tables.{rows_of, live, Held, Holds, Stands, Entered, Put};
 ghost use Rattle.tables.specs.Layouts.{unrouted_from, unrouted_head, unrouted_table};
 
@@ -107,7 +107,7 @@ pub fn store(w: &mut [u64; 112], n: usize, i: usize, u: Unrouted)
 // Where the record with that id stands.
 pub fn find(w: &[u64; 112], n: usize, id: u32) -> Option<usize>
     requires { Held unrouted_table w.now n }
-    ensures { result ≡ place_at (find_by unrouted_id id (live unrouted_table w.now n)) }
+    ensures { result ≡ find_by unrouted_id id (live unrouted_table w.now n) }
 {
     rows::seek(w, 7, n, id as u64)
 }

@@ -5,7 +5,7 @@ ghost use Rattle.std.specs.Prelude.{◌≡◌, true, false, ◌+◌, ◌*◌, �
 ghost use Rattle.records.specs.Limits.{last_time};
 ghost use Rattle.records.specs.Records.{unrouted_id, unrouted_entry, blank_unrouted, blank_destination, destination_address};
 ghost use Rattle.records.specs.declared.Verdict.TheVariants.{Failure};
-ghost use Rattle.rows.specs.Lists.{insert_by, place_at};
+ghost use Rattle.rows.specs.Lists.{insert_by};
 ghost use Rattle.rows.specs.Tables.{rows_of, live, Held, Holds};
 ghost use Rattle.rows.specs.Moves.{first_at, any_of, count, has_id};
 ghost use Rattle.rows.specs.Moves.Turn.{Settles};
@@ -144,7 +144,7 @@ pub fn sweep(
 // Where the oldest send to a destination stands.
 pub fn first_to(w: &[u64; 112], n: usize, destination: u16) -> Option<usize>
     requires { Held unrouted_table w.now n }
-    ensures { result ≡ place_at (first_at (goes_to destination) (live unrouted_table w.now n)) }
+    ensures { result ≡ first_at (goes_to destination) (live unrouted_table w.now n) }
 {
     let mut at: usize = 0;
     while at < n {

@@ -7,7 +7,7 @@ use Rattle.records.specs.declared.Destination.{Destination}
 use Rattle.rows.specs.Tables.{live}
 use Rattle.rows.specs.Moves.Turn.{Keeps}
 use Rattle.tables.specs.Layouts.{destination_table}
-use Rattle.rows.proofs.Promises.{here-some, nowhere-none, find_first, first_found, first-missed}
+use Rattle.rows.proofs.Promises.{find_first, first_found, first-missed}
 use Rattle.unrouted.proofs.is_held.Goals as goal
 
 abbrev held_at : ℕ → Destination → Bool
@@ -16,9 +16,9 @@ held_at d h = eqb h.address d
 pub returns-in-Some : goal.returns-in-Some
 returns-in-Some c =
     sym (first_found (held_at c.args.destination) Keeps blank_destination (live destination_table c.args.d.now c.args.k) _ (sym (find_first destination_address c.args.destination (live destination_table c.args.d.now c.args.k))
-    ∙ here-some _ _ (sym c.in-Some.is ∙ c.find.ensures))).any
+    ∙ (sym c.find.ensures)) ∙ c.in-Some.is).any
 
 pub returns-in-None : goal.returns-in-None
 returns-in-None c =
     sym (first-missed (held_at c.args.destination) Keeps (live destination_table c.args.d.now c.args.k) (sym (find_first destination_address c.args.destination (live destination_table c.args.d.now c.args.k))
-    ∙ nowhere-none _ (sym c.in-None.is ∙ c.find.ensures))).any
+    ∙ (sym c.find.ensures)) ∙ c.in-None.is).any

@@ -9,7 +9,7 @@ use Rattle.rows.specs.Tables.{live}
 use Rattle.rows.specs.Moves.{Turn, placed}
 use Rattle.rows.specs.Moves.Turn.{Keeps}
 use Rattle.tables.specs.Layouts.{unrouted_table, destination_table}
-use Rattle.rows.proofs.Promises.{hit-lt, hit-lookup, miss-lookup, held_at, held-holds, here-some, nowhere-none, find_first, first_found}
+use Rattle.rows.proofs.Promises.{hit-lt, hit-lookup, miss-lookup, held_at, held-holds, find_first, first_found}
 use Rattle.unrouted.proofs.Lists.{not-held, none_left, none-waits, spends}
 use Rattle.unrouted.proofs.retry_discovery.Goals as goal
 
@@ -18,16 +18,16 @@ abbrev spent : Destination → Turn Destination
 spent h = Keeps (record { address = h.address; retries = h.retries - 1 })
 
 pub load-h-requires : goal.load-h-requires
-load-h-requires c = omega (arith, hit-lt c.requires.held_2 _ _ (here-some _ _ (sym c.in-Some.is ∙ c.find.ensures)), c.requires.held_2.within)
+load-h-requires c = omega (arith, hit-lt c.requires.held_2 _ _ ((sym c.find.ensures) ∙ c.in-Some.is), c.requires.held_2.within)
 
 pub returns-then-h-eq0 : goal.returns-then-h-eq0
 returns-then-h-eq0 c =
-    let e = hit-lookup c.requires.held_2 _ _ (here-some _ _ (sym c.in-Some.is ∙ c.find.ensures)) ∙ ap Some (sym c.load-h.ensures) in
+    let e = hit-lookup c.requires.held_2 _ _ ((sym c.find.ensures) ∙ c.in-Some.is) ∙ ap Some (sym c.load-h.ensures) in
     record { answer = none_left c.args.destination (live unrouted_table c.args.w.now c.args.n) (live destination_table c.args.d.now c.args.k) _ e c.if-h-eq0.true; table = held-holds c.requires.held_2 }
 
 pub returns-then-not-waits : goal.returns-then-not-waits
 returns-then-not-waits c =
-    let e = hit-lookup c.requires.held_2 _ _ (here-some _ _ (sym c.in-Some.is ∙ c.find.ensures)) in
+    let e = hit-lookup c.requires.held_2 _ _ ((sym c.find.ensures) ∙ c.in-Some.is) in
     record {
       answer = none-waits c.args.destination (live unrouted_table c.args.w.now c.args.n) (live destination_table c.args.d.now c.args.k) _ e (sym c.waits.ensures ∙ c.if-not-waits.true);
       table = held-holds c.requires.held_2;
@@ -35,12 +35,12 @@ returns-then-not-waits c =
 
 pub returns-in-None : goal.returns-in-None
 returns-in-None c =
-    let e = nowhere-none _ (sym c.in-None.is ∙ c.find.ensures) in
+    let e = (sym c.find.ensures ∙ c.in-None.is) in
     record { answer = not-held c.args.destination (live unrouted_table c.args.w.now c.args.n) (live destination_table c.args.d.now c.args.k) (miss-lookup c.requires.held_2 _ e); table = held-holds c.requires.held_2 }
 
 pub returns-else-not-waits : goal.returns-else-not-waits
 returns-else-not-waits c =
-    let f = here-some _ _ (sym c.in-Some.is ∙ c.find.ensures) in
+    let f = (sym c.find.ensures ∙ c.in-Some.is) in
     let e = hit-lookup c.requires.held_2 _ _ f ∙ ap Some (sym c.load-h.ensures) in
     let g = first_found (λ (h : Destination). eqb h.address c.args.destination) spent blank_destination (live destination_table c.args.d.now c.args.k) _ (sym (find_first destination_address c.args.destination (live destination_table c.args.d.now c.args.k)) ∙ f) in
     let l = hit-lt c.requires.held_2 _ _ f in
@@ -53,5 +53,5 @@ returns-else-not-waits c =
 
 pub store-requires-clause-stands : goal.store-requires-clause-stands
 store-requires-clause-stands c =
-    let e = here-some _ _ (sym c.in-Some.is ∙ c.find.ensures) in
+    let e = (sym c.find.ensures ∙ c.in-Some.is) in
     record { there = hit-lt c.requires.held_2 _ _ e; same = ap (λ (h : Destination). h.address) c.load-h.ensures }

@@ -1,4 +1,5 @@
-use Rattle.rows.proofs.Promises.{scan-first, scan-here, scan-end, here-some, nowhere-none}
+use mathlib.Core.Path.{sym}
+use Rattle.rows.proofs.Promises.{scan-first, scan-here, scan-end}
 use Rattle.sending.specs.Rules.{stirs}
 use Rattle.scanning.proofs.Scans.{sends, any-there, any_none}
 use native.Mathlib.Omega.{arith}
@@ -12,9 +13,9 @@ pub returns-then-stirs_at : goal.returns-then-stirs_at
 returns-then-stirs_at c =
     let at = c.loop-j in
     let p = scan-here c.requires (stirs c.args.clock) at.j at.invariant.1 (omega arith) (said c.stirs_at.ensures c.if-stirs_at.true) in
-    any-there c.requires (stirs c.args.clock) at.j (here-some _ _ p)
+    any-there c.requires (stirs c.args.clock) at.j (sym p)
 
 pub returns : goal.returns
 returns c =
     let p = scan-end c.requires (stirs c.args.clock) c.loop-j.j c.loop-j.invariant.1 (omega arith) in
-    any_none c.requires (stirs c.args.clock) (nowhere-none _ p)
+    any_none c.requires (stirs c.args.clock) (sym p)

@@ -1,5 +1,4 @@
 use Rattle.rows.specs.Moves.{first_at, place_from}
-use Rattle.rows.specs.Lists.{place_at}
 use lib.ListN.{drop}
 use Rattle.sending.specs.Rules.{stirs}
 use Rattle.scanning.proofs.Scans.{sends}
@@ -9,7 +8,7 @@ use Rattle.scanning.proofs.asks.any_stirs.Given as goal
 
 abbrev pub invariant-loop-j : goal.invariant-loop-j
 invariant-loop-j l =
-    (l.j ≤ l.n) × (place_from (stirs l.clock) l.j (drop l.j (sends l.w l.n)) ≡ place_at (first_at (stirs l.clock) (sends l.w l.n)))
+    (l.j ≤ l.n) × (place_from (stirs l.clock) l.j (drop l.j (sends l.w l.n)) ≡ first_at (stirs l.clock) (sends l.w l.n))
 
 abbrev pub decreases-loop-j : goal.decreases-loop-j
 decreases-loop-j l = l.n - l.j

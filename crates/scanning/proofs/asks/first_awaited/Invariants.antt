@@ -1,5 +1,4 @@
 use Rattle.rows.specs.Moves.{first_at, place_from}
-use Rattle.rows.specs.Lists.{place_at}
 use lib.ListN.{drop}
 use Rattle.sending.specs.Rules.{awaits}
 use Rattle.scanning.proofs.Scans.{sends}
@@ -9,7 +8,7 @@ use Rattle.scanning.proofs.asks.first_awaited.Given as goal
 
 abbrev pub invariant-loop-k : goal.invariant-loop-k
 invariant-loop-k l =
-    (l.k ≤ l.n) × (place_from (awaits l.eui l.nwk l.clock) l.k (drop l.k (sends l.w l.n)) ≡ place_at (first_at (awaits l.eui l.nwk l.clock) (sends l.w l.n)))
+    (l.k ≤ l.n) × (place_from (awaits l.eui l.nwk l.clock) l.k (drop l.k (sends l.w l.n)) ≡ first_at (awaits l.eui l.nwk l.clock) (sends l.w l.n))
 
 abbrev pub decreases-loop-k : goal.decreases-loop-k
 decreases-loop-k l = l.n - l.k
