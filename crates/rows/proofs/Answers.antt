@@ -1,6 +1,6 @@
 -- What find, insert and remove answer of a held table, as their code has it: one law for each way that they end. Over any kind of table whose layout
 -- is lawful. Assumes nothing.
-use Rattle.std.specs.Prelude.{Option, None, Some}
+use Rattle.std.specs.Prelude.{Option, None, Some, Ok, Err}
 use Prim.Native.Nat.{ℕ, suc, ◌+◌, ◌-◌, ◌*◌, ◌≤◌, ◌<◌}
 use native.Mathlib.Nat.{mul-le-mul_right}
 use native.Mathlib.Omega.{arith}
@@ -12,8 +12,6 @@ use lib.ListN.{length, set}
 use lib.Dec.{leb}
 use borrow.Author.Tests.{le-leb, lt-leb, leb-true, leb-false}
 use Rattle.records.specs.Pick.{pick}
-use Rattle.rows.specs.declared.Spot.{Spot}
-use Rattle.rows.specs.declared.Spot.TheVariants.{Taken, Free}
 use Rattle.rows.specs.declared.Slot.{Slot}
 use Rattle.rows.specs.declared.Slot.TheVariants.{Shut, Over, New}
 use Rattle.rows.specs.Lists.{remove_at, place_of, find_by, insert_by, remove_by, spot_at}
@@ -24,11 +22,11 @@ use Rattle.rows.proofs.Keys.{place-le, found, not_found, insert-hit, remove-hit,
 use Rattle.rows.proofs.Promises.{length-insert-hit, length-insert-miss, held-length, hit-lt, hit-key}
 use Rattle.rows.proofs.Held.{Lawful, held-long, held-spot, holds_same, holds-removed, holds-put, holds_opened}
 
-pub taken-some : (o : Option ℕ) (i k : ℕ) → Taken i ≡ spot_at o k → o ≡ Some i
+pub taken-some : (o : Option ℕ) (i k : ℕ) → Ok i ≡ spot_at o k → o ≡ Some i
 taken-some None i k e = let z : ◌≡◌ {A = ℕ} 0 1 = cc in absurd (omega arith)
 taken-some (Some j) i k e = cc
 
-pub free-none : (o : Option ℕ) (i k : ℕ) → Free i ≡ spot_at o k → (o ≡ None) × (i ≡ k)
+pub free-none : (o : Option ℕ) (i k : ℕ) → Err i ≡ spot_at o k → (o ≡ None) × (i ≡ k)
 free-none None i k e = (refl, cc)
 free-none (Some j) i k e = let z : ◌≡◌ {A = ℕ} 0 1 = cc in absurd (omega arith)
 
@@ -62,7 +60,7 @@ place-of None p = refl
 place-of (Some i) p = refl
 
 -- there is room for the row to be opened
-pub opens : {width n room : ℕ} {ws : List ℕ} (s : Searched width n ws) (key i : ℕ) → Free i ≡ spot_in key (rows_from width itself n ws) → n < room
+pub opens : {width n room : ℕ} {ws : List ℕ} (s : Searched width n ws) (key i : ℕ) → Err i ≡ spot_in key (rows_from width itself n ws) → n < room
     → room * width ≤ length ws → (i ≤ n) × ((n + 1) * width ≤ length ws)
 opens {width} {n} {room} {ws} s key i e h r =
     let rows : List (List ℕ) = rows_from width itself n ws in

@@ -1,9 +1,7 @@
 -- A table as the list of its records in rising key: what finding, inserting and removing mean. Over the type A of the records, the key that they
 -- are kept under, the blank that fills a free place, and the number of places.
-use Rattle.std.specs.Prelude.{ℕ, zero, suc, ◌-◌, ◌≤◌, List, [], ◌∷◌, ◌++◌, length, replicate, ltb, leb, eqb, Option, None, Some, option_map}
+use Rattle.std.specs.Prelude.{ℕ, zero, suc, ◌-◌, ◌≤◌, List, [], ◌∷◌, ◌++◌, length, replicate, ltb, leb, eqb, Option, None, Some, option_map, Result, Ok, Err}
 use Rattle.records.specs.Pick.{pick}
-use Rattle.rows.specs.declared.Spot.{Spot}
-use Rattle.rows.specs.declared.Spot.TheVariants.{Taken, Free}
 
 module _ {A : Type 0} where
   -- the list without what stands at i
@@ -64,9 +62,9 @@ module _ {A : Type 0} (key : A → ℕ) where
   Rising lo (y ∷ ys) = (lo ≤ key y) × Rising (suc (key y)) ys
 
 -- where a key stands among rows, or where it would
-abbrev pub spot_at : Option ℕ → ℕ → Spot
-spot_at None k = Free k
-spot_at (Some i) k = Taken i
+abbrev pub spot_at : Option ℕ → ℕ → Result ℕ ℕ
+spot_at None k = Err k
+spot_at (Some i) k = Ok i
 
 -- what insert answers where there would be n records
 abbrev pub inserted_of : ℕ → ℕ → Option ℕ

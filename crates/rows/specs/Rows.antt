@@ -1,9 +1,7 @@
 -- Rows of words: row i is the `width` words from i * width on. How a list of records lies in words, and what moving rows does to them.
-use Rattle.std.specs.Prelude.{ℕ, zero, suc, ◌+◌, ◌-◌, ◌*◌, ◌≤◌, ◌<◌, List, [], ◌∷◌, ◌++◌, length, take, drop, get_or, replicate, ◌≡◌, leb, Option, None, Some}
+use Rattle.std.specs.Prelude.{ℕ, zero, suc, ◌+◌, ◌-◌, ◌*◌, ◌≤◌, ◌<◌, List, [], ◌∷◌, ◌++◌, length, take, drop, get_or, replicate, ◌≡◌, leb, Option, None, Some, Result, Ok, Err}
 use Rattle.std.proofs.lemmas.List.Edits.{sets}
 use Rattle.records.specs.Pick.{pick}
-use Rattle.rows.specs.declared.Spot.{Spot}
-use Rattle.rows.specs.declared.Spot.TheVariants.{Taken, Free}
 use Rattle.rows.specs.declared.Slot.{Slot}
 use Rattle.rows.specs.declared.Slot.TheVariants.{Shut, Over, New}
 use Rattle.rows.specs.Lists.{place_of, find_by, spot_at, Rising}
@@ -26,12 +24,12 @@ abbrev pub first_word : List ℕ → ℕ
 first_word v = get_or v 0 0
 
 -- where the row with that key stands, or would
-abbrev pub spot_in : ℕ → List (List ℕ) → Spot
+abbrev pub spot_in : ℕ → List (List ℕ) → Result ℕ ℕ
 spot_in key rows = spot_at (find_by first_word key rows) (place_of first_word key rows)
 
-abbrev pub place_of_spot : Spot → Option ℕ
-place_of_spot (Taken i) = Some i
-place_of_spot (Free i) = None
+abbrev pub place_of_spot : Result ℕ ℕ → Option ℕ
+place_of_spot (Ok i) = Some i
+place_of_spot (Err i) = None
 
 -- what a search by key asks: n rows are there, and their keys rise
 pub record Searched (width n : ℕ) (ws : List ℕ) : Type 0 where
@@ -54,9 +52,9 @@ abbrev pub opened : ℕ → ℕ → ℕ → List ℕ → List ℕ
 opened width n i ws = moved (i * width + width) (i * width) ((n - i) * width) ws
 
 -- a row is written over the one with its key, or at a new place if one of `room` is free
-abbrev pub slot_of : ℕ → ℕ → Spot → Slot
-slot_of room n (Taken i) = Over i
-slot_of room n (Free i) = pick (leb room n) Shut (New i)
+abbrev pub slot_of : ℕ → ℕ → Result ℕ ℕ → Slot
+slot_of room n (Ok i) = Over i
+slot_of room n (Err i) = pick (leb room n) Shut (New i)
 
 abbrev pub slot_words : ℕ → ℕ → List ℕ → Slot → List ℕ
 slot_words width n ws Shut = ws
@@ -68,13 +66,13 @@ pub record Slotted (width room n key : ℕ) (ws ws' : List ℕ) (r : Slot) : Typ
   pub words : ws' ≡ slot_words width n ws r
 
 -- the row with the key is taken out, if there is one
-abbrev pub left_count : ℕ → Spot → ℕ
-left_count n (Taken i) = n - 1
-left_count n (Free i) = n
+abbrev pub left_count : ℕ → Result ℕ ℕ → ℕ
+left_count n (Ok i) = n - 1
+left_count n (Err i) = n
 
-abbrev pub left_words : ℕ → ℕ → List ℕ → Spot → List ℕ
-left_words width n ws (Taken i) = closed width n i ws
-left_words width n ws (Free i) = ws
+abbrev pub left_words : ℕ → ℕ → List ℕ → Result ℕ ℕ → List ℕ
+left_words width n ws (Ok i) = closed width n i ws
+left_words width n ws (Err i) = ws
 
 pub record Unslotted (width n key : ℕ) (ws ws' : List ℕ) (r : ℕ) : Type 0 where
   pub answer : r ≡ left_count n (spot_in key (rows_from width itself n ws))

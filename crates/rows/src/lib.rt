@@ -7,13 +7,6 @@ ghost use Rattle.std.proofs.lemmas.List.Edits.{sets};
 ghost use Rattle.rows.specs.Lists.{place_of};
 ghost use Rattle.rows.specs.Rows.{first_word, rows_from, itself, spot_in, place_of_spot, Searched, moved, closed, opened, Slotted, Unslotted};
 
-// A place with the asked key, or the place where a row with that key belongs.
-#[derive(Clone, Copy)]
-pub enum Spot {
-    Taken(usize),
-    Free(usize),
-}
-
 // Where a row may be written: nowhere, over the one with its key, or at a new place.
 #[derive(Clone, Copy)]
 pub enum Slot {
@@ -62,15 +55,15 @@ pub fn below(w: &[u64], width: usize, n: usize, key: u64) -> usize
 }
 
 // Where among the first n rows the one with that key stands, or where it would.
-pub fn find(w: &[u64], width: usize, n: usize, key: u64) -> Spot
+pub fn find(w: &[u64], width: usize, n: usize, key: u64) -> Result<usize, usize>
     requires { Searched width n w.now }
     ensures { result ≡ spot_in key (rows_from width itself n w.now) }
 {
     let at = below(w, width, n, key);
     if at < n && w[at * width] == key {
-        Spot::Taken(at)
+        Ok(at)
     } else {
-        Spot::Free(at)
+        Err(at)
     }
 }
 
@@ -79,10 +72,7 @@ pub fn seek(w: &[u64], width: usize, n: usize, key: u64) -> Option<usize>
     requires { Searched width n w.now }
     ensures { result ≡ place_of_spot (spot_in key (rows_from width itself n w.now)) }
 {
-    match find(w, width, n, key) {
-        Spot::Taken(i) => Some(i),
-        Spot::Free(_) => None,
-    }
+    find(w, width, n, key).ok()
 }
 
 // Makes a place for a row with that key among n of `room` rows.
@@ -92,9 +82,9 @@ pub fn enter(w: &mut [u64], width: usize, room: usize, n: usize, key: u64) -> Sl
     ensures { Slotted width room n key w.old w.new result }
 {
     match find(w, width, n, key) {
-        Spot::Taken(i) => Slot::Over(i),
-        Spot::Free(_) if room <= n => Slot::Shut,
-        Spot::Free(i) => {
+        Ok(i) => Slot::Over(i),
+        Err(_) if room <= n => Slot::Shut,
+        Err(i) => {
             open(w, width, n, i);
             Slot::New(i)
         }
@@ -107,10 +97,10 @@ pub fn leave(w: &mut [u64], width: usize, n: usize, key: u64) -> usize
     ensures { Unslotted width n key w.old w.new result }
 {
     match find(w, width, n, key) {
-        Spot::Taken(i) => {
+        Ok(i) => {
             close(w, width, n, i);
             n - 1
         }
-        Spot::Free(_) => n,
+        Err(_) => n,
     }
 }

@@ -4,5 +4,5 @@ use Rattle.rows.proofs.enter.Goals as goal
 
 pub open-requires : goal.open-requires
 open-requires c =
-    let e = sym c.in-Free.is ∙ c.find.ensures in
+    let e = sym c.in-Err.is ∙ c.find.ensures in
     opens c.requires.searched c.args.key _ e c.if-room-n.false c.requires.n_le_room.1
