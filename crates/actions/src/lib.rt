@@ -17,7 +17,7 @@ fn tags_of(v: Verdict, hop: Option<u16>) -> u64
     let code = records::numbers::verdict_code(v) as u64;
     let a = records::numbers::verdict_address(v);
     let tag = codes::address_tag(a);
-    let last = codes::opt16_word(hop);
+    let last = codes::opt_word(hop);
     1 + 2 * (number + 8 * (tag + 4 * (code + 65536 * last)))
 }
 
@@ -108,7 +108,7 @@ fn action_of(id: u64, waiter: u64, frame: u64, tags: u64, address: u64) -> Actio
         waiter: waiter,
         frame: (frame % 4294967296) as u32,
     };
-    Action::Settled(e, v, codes::opt16_of(tags / 4194304 % 131072))
+    Action::Settled(e, v, codes::opt_of(tags / 4194304 % 131072))
 }
 
 // What is told at a place.

@@ -1,8 +1,8 @@
--- Broadcasts in words: the layout is lawful, a place says its record, and a record written says itself again.
+-- Broadcasts in words: a place says its record, and a record written says itself again.
 use Prim.Native.Nat.{ℕ, ◌+◌, ◌*◌, ◌/◌, ◌%◌, ◌<◌}
 use native.Mathlib.Nat.{mod-eq_of_lt}
 use native.Mathlib.Omega.{arith}
-use mathlib.Core.Path.{◌≡◌, refl, ap, ap₂, ◌∙◌}
+use mathlib.Core.Path.{◌≡◌, ap, ap₂, ◌∙◌}
 use mathlib.Core.List.{List}
 use lib.ListN.{get_or}
 use Rattle.records.specs.Records.{blank_broadcast}
@@ -14,11 +14,7 @@ use Rattle.rows.specs.Tables.{rows_of}
 use Rattle.tables.specs.Layouts.{broadcast_from, broadcast_layout, broadcast_table}
 use Rattle.rows.proofs.Search.{first-at, next-at}
 use Rattle.codes.proofs.Backs.{priority-back, rank-low, flag-back, bit-low, copy-back, copy-low, schedule-low}
-use Rattle.rows.proofs.Held.{Lawful, row_of}
-
-pub lawful : Lawful broadcast_table
-unfolding broadcast_layout
-lawful = record { wide = omega arith; long = λ x. refl; first = λ x. refl; zeros = refl; back = refl }
+use Rattle.rows.proofs.Held.{row_of}
 
 -- what the seven words of a place say is its record
 pub row : (ws : List ℕ) (i : ℕ) → i < 16

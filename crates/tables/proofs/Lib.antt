@@ -2,3 +2,4 @@ pub mod UnicastRows
 pub mod UnroutedRows
 pub mod BroadcastRows
 pub mod DestinationRows
+pub mod Writes

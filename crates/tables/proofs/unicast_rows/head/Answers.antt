@@ -18,6 +18,6 @@ returns c =
       priority = c.priority_of-p.ensures j;
       poll_address = c.address_of-a.ensures j;
       stage = c.stage_of-s.ensures j;
-      copy_of = c.opt32_of-o.ensures j;
+      copy_of = c.opt_of-o.ensures j;
     } in
     e ∙ ap unicast_head (row w c.args.i c.requires)
