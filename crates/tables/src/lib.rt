@@ -50,10 +50,9 @@ pub trait Record: Copy {
     ghost room_is: { table.room ≡ ROOM };
 }
 
-// The table with no record.
+// The table with no record, where N is what it takes.
 pub fn fresh<R: Record, const N: usize>() -> [u64; N]
-    requires { N ≡ R.ROOM * R.WIDTH }
-    ensures { Holds R.table result 0 [] }
+    ensures { N ≡ R.ROOM * R.WIDTH → Holds R.table result 0 [] }
 {
     [0; N]
 }

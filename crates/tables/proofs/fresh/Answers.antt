@@ -3,5 +3,5 @@ use Rattle.tables.proofs.fresh.Goals as goal
 
 pub returns : goal.returns
 returns g c =
-    let m = g.met.R.Record in
-    zeros-hold m.lawful g.row.N (rw (← m.width_is, ← m.room_is) at c.requires)
+    λ size. let m = g.met.R.Record in
+    zeros-hold m.lawful g.row.N (rw (← m.width_is, ← m.room_is) at size)
