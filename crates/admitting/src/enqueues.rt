@@ -21,17 +21,7 @@ fn unicast_as(id: u32, u: NewUnicast, copy: Option<u32>, s: Settings, clock: u64
     let f = u.confirm;
     let a = u.poll_address;
     turning::rules::admitted(
-        id,
-        u.frame,
-        u.waiter,
-        p,
-        f,
-        u.next_hop,
-        a,
-        copy,
-        s,
-        clock,
-        None,
+        id, u.frame, u.waiter, p, f, u.next_hop, a, copy, s, clock, None,
     )
 }
 
@@ -68,7 +58,7 @@ pub(crate) fn enter_unicast(w: &mut [u64; 320], n: usize, u: Unicast) -> usize
     requires n_bound { n < 32 }
     ensures { Holds unicast_table w.new result (insert_by unicast_id u (live unicast_table w.old n)) }
 {
-    match tables::unicast_rows::insert(w, n, u) {
+    match tables::insert(w, n, u) {
         None => n,
         Some(m) => m,
     }
@@ -79,7 +69,7 @@ fn enter_broadcast(w: &mut [u64; 112], n: usize, u: Broadcast) -> usize
     requires n_bound { n < 16 }
     ensures { Holds broadcast_table w.new result (insert_by broadcast_id u (live broadcast_table w.old n)) }
 {
-    match tables::broadcast_rows::insert(w, n, u) {
+    match tables::insert(w, n, u) {
         None => n,
         Some(m) => m,
     }

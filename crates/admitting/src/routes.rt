@@ -11,7 +11,7 @@ ghost use Rattle.model.specs.Model.{lent_model, SoundTables, Does};
 ghost use Rattle.model.specs.Calls.{reached, routed, retry_of, fail_of, route_of, routing};
 
 use model::{Answer, Counts, Did, Resolved};
-use records::{Address, Refusal, Settings, Unicast, Unrouted, Verdict};
+use records::{Address, Destination, Refusal, Settings, Unicast, Unrouted, Verdict};
 use unrouted::{Retry, Which};
 
 // How many unicasts there are, and the next place in the buffer.
@@ -225,7 +225,7 @@ fn route_found(
     ensures { Does (routing (lent_model c w.old v.old d.old b.old) s destination clock (take n results)) told.old w.new v.new d.new b.new told.new result }
 {
     let t = unrouted::sweep(v, c.unrouted, told, 0, Which::Lapsed(clock));
-    let held = tables::destination_rows::remove(d, c.held, destination);
+    let held = tables::remove::<Destination>(d, c.held, destination as u32);
     let x = route_all(
         w,
         c.unicasts,

@@ -29,11 +29,11 @@ fn play(
     let e = records::blanks::broadcast_entry(u);
     match t {
         TurnB::KeepsB(b) => {
-            tables::broadcast_rows::store(w, n, i, b);
+            tables::store(w, n, i, b);
             Counts { sends: n, told: m }
         }
         TurnB::HandsOffB(b) => {
-            tables::broadcast_rows::store(w, n, i, b);
+            tables::store(w, n, i, b);
             let next = actions::hand_off(told, m, e);
             Counts {
                 sends: n,
@@ -42,7 +42,7 @@ fn play(
         }
         TurnB::SettlesB(again, v) => {
             let next = actions::settle_again(told, m, e, again, v, None);
-            tables::broadcast_rows::remove_at(w, n, i);
+            tables::remove_at::<Broadcast>(w, n, i);
             Counts {
                 sends: n - 1,
                 told: next,
@@ -68,7 +68,7 @@ pub fn enqueue(
     ensures { Entered broadcast_table w.old n (admitted_of id frame waiter priority schedule clock handoff) w.new result }
 {
     let b = repeating::turns::admitted(id, frame, waiter, priority, schedule, clock, handoff);
-    tables::broadcast_rows::insert(w, n, b)
+    tables::insert(w, n, b)
 }
 
 // The broadcast with that id, the best queued one, goes to the radio: answers its frame.
@@ -76,11 +76,11 @@ pub fn dequeue(w: &mut [u64; 112], n: usize, id: u32) -> Option<u32>
     requires { Held broadcast_table w.old n }
     ensures { Dequeued id w.old n w.new result }
 {
-    match tables::broadcast_rows::find(w, n, id) {
+    match tables::find::<Broadcast>(w, n, id) {
         None => None,
         Some(i) => {
-            let u = tables::broadcast_rows::load(w, i);
-            tables::broadcast_rows::store(w, n, i, repeating::turns::dequeued(u));
+            let u = tables::load::<Broadcast>(w, i);
+            tables::store(w, n, i, repeating::turns::dequeued(u));
             Some(u.frame)
         }
     }
@@ -103,10 +103,10 @@ pub fn report(
     requires clock_le_last_time { clock ≤ last_time }
     ensures { Answered id (report_bar frame) (report_turn x clock delay) w.old n told.old m w.new told.new result }
 {
-    match tables::broadcast_rows::find(w, n, id) {
+    match tables::find::<Broadcast>(w, n, id) {
         None => Outcome::Refused(Refusal::NoSuchSend),
         Some(i) => {
-            let u = tables::broadcast_rows::load(w, i);
+            let u = tables::load::<Broadcast>(w, i);
             let c = u.copy;
             if !repeating::turns::in_radio(c) {
                 return Outcome::Refused(Refusal::NotInTheRadio);
@@ -126,10 +126,10 @@ pub fn cancel(w: &mut [u64; 112], n: usize, told: &mut [u64; 560], m: usize, id:
     requires m_bound { m + 2 ≤ 112 }
     ensures { Answered id cancel_bar cancel_turn w.old n told.old m w.new told.new result }
 {
-    match tables::broadcast_rows::find(w, n, id) {
+    match tables::find::<Broadcast>(w, n, id) {
         None => Outcome::Refused(Refusal::NoSuchSend),
         Some(i) => {
-            let u = tables::broadcast_rows::load(w, i);
+            let u = tables::load::<Broadcast>(w, i);
             let c = u.copy;
             if repeating::turns::in_radio(c) {
                 return Outcome::Refused(Refusal::InTheRadio);
@@ -170,7 +170,7 @@ pub fn delivered(
     match first_keyed(w, n, key) {
         None => Counts { sends: n, told: m },
         Some(i) => {
-            let u = tables::broadcast_rows::load(w, i);
+            let u = tables::load::<Broadcast>(w, i);
             let t = repeating::turns::delivered(u);
             play(w, n, told, m, i, u, t)
         }
@@ -190,7 +190,7 @@ fn tick_at(
     requires i_lt_n { (i < n) × (m + 2 ≤ 112) }
     ensures { Played broadcast_table broadcast_entry (tick_turn clock (get_or (rows_of broadcast_table w.old) i blank_broadcast)) i (get_or (rows_of broadcast_table w.old) i blank_broadcast) w.old n told.old m w.new result.sends told.new result.told }
 {
-    let u = tables::broadcast_rows::load(w, i);
+    let u = tables::load::<Broadcast>(w, i);
     let t = repeating::turns::tick(u, clock);
     play(w, n, told, m, i, u, t)
 }
@@ -250,5 +250,5 @@ pub fn tick(
 pub fn abandon(w: &mut [u64; 112])
     ensures { Holds broadcast_table w.new 0 [] }
 {
-    *w = tables::broadcast_rows::fresh();
+    *w = tables::fresh::<Broadcast, 112>();
 }

@@ -2,6 +2,8 @@
 ghost use Rattle.std.specs.Prelude.{◌≡◌};
 ghost use Rattle.casting.specs.Rules.{attempt_by, wake_head, stirs_head, attempt_due, ready_by, better, keyed_by, awaited_head};
 
+use records::compare::same_quorum_key;
+use records::times::sooner_of;
 use records::{CopyState, QuorumKey, Schedule};
 use tables::broadcast_rows::BroadcastHead;
 
@@ -10,26 +12,8 @@ fn sooner_attempt(deadline: u64, s: Schedule) -> u64
 {
     match s {
         Schedule::Once => deadline,
-        Schedule::PassiveAck {
-            key: _,
-            copies_remaining: _,
-            next_attempt,
-        } => {
-            if next_attempt <= deadline {
-                return next_attempt;
-            }
-            deadline
-        }
-        Schedule::FixedInterval {
-            interval: _,
-            copies_remaining: _,
-            next_attempt,
-        } => {
-            if next_attempt <= deadline {
-                return next_attempt;
-            }
-            deadline
-        }
+        Schedule::PassiveAck { next_attempt, .. } | Schedule::FixedInterval { next_attempt, .. } =>
+            next_attempt.min(deadline),
     }
 }
 
@@ -37,14 +21,9 @@ fn sooner_attempt(deadline: u64, s: Schedule) -> u64
 pub fn wake(h: BroadcastHead, o: Option<u64>) -> Option<u64>
     ensures { result ≡ wake_head h o }
 {
-    let c = h.copy;
-    match c {
-        CopyState::Idle => {
-            let s = h.schedule;
-            let t = sooner_attempt(h.deadline, s);
-            records::times::sooner_of(t, o)
-        }
-        CopyState::CopyQueued => records::times::sooner_of(h.deadline, o),
+    match h.copy {
+        CopyState::Idle => sooner_of(sooner_attempt(h.deadline, h.schedule), o),
+        CopyState::CopyQueued => sooner_of(h.deadline, o),
         CopyState::CopyTransmitting => o,
     }
 }
@@ -53,12 +32,8 @@ pub fn wake(h: BroadcastHead, o: Option<u64>) -> Option<u64>
 pub fn stirs(h: BroadcastHead, clock: u64) -> bool
     ensures { result ≡ stirs_head clock h }
 {
-    let c = h.copy;
-    match c {
-        CopyState::Idle => {
-            let s = h.schedule;
-            sooner_attempt(h.deadline, s) <= clock
-        }
+    match h.copy {
+        CopyState::Idle => sooner_attempt(h.deadline, h.schedule) <= clock,
         CopyState::CopyQueued => h.deadline <= clock,
         CopyState::CopyTransmitting => false,
     }
@@ -70,16 +45,8 @@ pub fn attempt_due(s: Schedule, clock: u64) -> bool
 {
     match s {
         Schedule::Once => false,
-        Schedule::PassiveAck {
-            key: _,
-            copies_remaining: _,
-            next_attempt,
-        } => next_attempt <= clock,
-        Schedule::FixedInterval {
-            interval: _,
-            copies_remaining: _,
-            next_attempt,
-        } => next_attempt <= clock,
+        Schedule::PassiveAck { next_attempt, .. } | Schedule::FixedInterval { next_attempt, .. } =>
+            next_attempt <= clock,
     }
 }
 
@@ -87,11 +54,7 @@ pub fn attempt_due(s: Schedule, clock: u64) -> bool
 pub fn is_ready(c: CopyState, deadline: u64, clock: u64) -> bool
     ensures { result ≡ ready_by clock c deadline }
 {
-    match c {
-        CopyState::Idle => false,
-        CopyState::CopyQueued => clock < deadline,
-        CopyState::CopyTransmitting => false,
-    }
+    matches!(c, CopyState::CopyQueued) && clock < deadline
 }
 
 // The better of one with this id and rank, and the best of those with higher ids.
@@ -100,12 +63,7 @@ pub fn better_of(id: u32, rank: u8, o: Option<(u32, u8)>) -> Option<(u32, u8)>
 {
     match o {
         None => Some((id, rank)),
-        Some((j, s)) => {
-            if s <= rank {
-                return Some((id, rank));
-            }
-            Some((j, s))
-        }
+        Some((_, s)) => if s <= rank { Some((id, rank)) } else { o },
     }
 }
 
@@ -113,42 +71,15 @@ pub fn better_of(id: u32, rank: u8, o: Option<(u32, u8)>) -> Option<(u32, u8)>
 pub fn is_keyed(s: Schedule, k: QuorumKey) -> bool
     ensures { result ≡ keyed_by k s }
 {
-    match s {
-        Schedule::Once => false,
-        Schedule::PassiveAck {
-            key,
-            copies_remaining: _,
-            next_attempt: _,
-        } => records::compare::same_quorum_key(key, k),
-        Schedule::FixedInterval {
-            interval: _,
-            copies_remaining: _,
-            next_attempt: _,
-        } => false,
-    }
+    matches!(s, Schedule::PassiveAck { key, .. } if same_quorum_key(key, k))
 }
 
 // The key whose quorum it waits for.
 pub fn awaited(h: BroadcastHead) -> Option<QuorumKey>
     ensures { result ≡ awaited_head h }
 {
-    let s = h.schedule;
-    match s {
-        Schedule::Once => None,
-        Schedule::PassiveAck {
-            key,
-            copies_remaining: _,
-            next_attempt: _,
-        } => {
-            if h.quorum_heard {
-                return None;
-            }
-            Some(key)
-        }
-        Schedule::FixedInterval {
-            interval: _,
-            copies_remaining: _,
-            next_attempt: _,
-        } => None,
+    match h.schedule {
+        Schedule::PassiveAck { key, .. } if !h.quorum_heard => Some(key),
+        _ => None,
     }
 }

@@ -27,4 +27,3 @@ pub enum Outcome {
     Refused(Refusal),
     Done(Counts),
 }
-

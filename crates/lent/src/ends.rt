@@ -5,7 +5,7 @@ ghost use Rattle.model.specs.Calls.{soonest, wake_of, cancel_of, cancel_unrouted
 ghost use Rattle.doing.specs.Parts.{cancel_in, cancel_cast, AbandonedAll};
 
 use model::{Abandoned, Answer, Counts, Did};
-use records::Refusal;
+use records::{Broadcast, Refusal, Unicast, Unrouted};
 use unicasts::Outcome;
 use unrouted::Which;
 
@@ -73,7 +73,7 @@ fn cancel_broadcast(
     ensures { Does (cancel_cast (lent_model c w.old v.old d.old b.old) id) told.old w.new v.new d.new b.new told.new result }
 {
     if scanning::asks::copy_in_radio(w, c.unicasts, id) {
-        return match tables::broadcast_rows::find(b, c.broadcasts, id) {
+        return match tables::find::<Broadcast>(b, c.broadcasts, id) {
             None => doing::denied(c, Refusal::NoSuchSend),
             Some(_) => doing::denied(c, Refusal::InTheRadio),
         };
@@ -110,9 +110,9 @@ pub fn cancel(
     requires { SoundTables c w.old v.old d.old b.old }
     ensures { Does (cancel_of (lent_model c w.old v.old d.old b.old) id) told.old w.new v.new d.new b.new told.new result }
 {
-    match tables::unicast_rows::find(w, c.unicasts, id) {
+    match tables::find::<Unicast>(w, c.unicasts, id) {
         Some(_) => cancel_unicast(c, w, v, d, b, told, id),
-        None => match tables::unrouted_rows::find(v, c.unrouted, id) {
+        None => match tables::find::<Unrouted>(v, c.unrouted, id) {
             Some(_) => cancel_unrouted(c, w, v, d, b, told, id),
             None => cancel_broadcast(c, w, v, d, b, told, id),
         },
@@ -161,7 +161,13 @@ fn soonest_of(a: Option<u64>, o: Option<u64>) -> Option<u64>
 }
 
 // When a tick next has something to do.
-pub fn next_wake(c: Counts, w: &[u64; 320], v: &[u64; 112], d: &[u64; 32], b: &[u64; 112]) -> Option<u64>
+pub fn next_wake(
+    c: Counts,
+    w: &[u64; 320],
+    v: &[u64; 112],
+    d: &[u64; 32],
+    b: &[u64; 112],
+) -> Option<u64>
     requires { SoundTables c w.now v.now d.now b.now }
     ensures { result ≡ wake_of (lent_model c w.now v.now d.now b.now) }
 {

@@ -10,7 +10,7 @@ ghost use Rattle.model.specs.Steps.{members_of};
 ghost use Rattle.doing.specs.Parts.{Listed};
 ghost use Rattle.lent.specs.Fills.{Filled, Matching};
 
-use records::Entry;
+use records::{Broadcast, Entry, Unicast, Unrouted};
 use sending::Book;
 
 // The slices are no address map, or how many members the set has.
@@ -38,7 +38,7 @@ pub(crate) fn list_unicasts(w: &[u64; 320], n: usize, list: &mut [u64; 128], at:
 {
     let mut i: usize = 0;
     while i < n {
-        let u = tables::unicast_rows::load(w, i);
+        let u = tables::load::<Unicast>(w, i);
         let e = records::blanks::unicast_entry(u);
         list_one(list, at + i, e);
         i = i + 1;
@@ -54,7 +54,7 @@ pub(crate) fn list_unrouted(w: &[u64; 112], n: usize, list: &mut [u64; 128], at:
 {
     let mut i: usize = 0;
     while i < n {
-        let u = tables::unrouted_rows::load(w, i);
+        let u = tables::load::<Unrouted>(w, i);
         let e = records::blanks::unrouted_entry(u);
         list_one(list, at + i, e);
         i = i + 1;
@@ -70,7 +70,7 @@ pub(crate) fn list_broadcasts(w: &[u64; 112], n: usize, list: &mut [u64; 128], a
 {
     let mut i: usize = 0;
     while i < n {
-        let u = tables::broadcast_rows::load(w, i);
+        let u = tables::load::<Broadcast>(w, i);
         let e = records::blanks::broadcast_entry(u);
         list_one(list, at + i, e);
         i = i + 1;

@@ -1,27 +1,18 @@
 // The rules on one broadcast.
-ghost use Rattle.std.specs.Prelude.{◌≡◌, ◌-◌, ◌≤◌};
+ghost use Rattle.std.specs.Prelude.{◌≡◌, ◌≤◌};
 ghost use Rattle.records.specs.Limits.{last_time};
-ghost use Rattle.casting.specs.Types.{Sent, Failed, CopyQueued, PassiveAck, FixedInterval};
-ghost use Rattle.casting.specs.Rules.{turn_b, remade, first_copy, admitted_of, no_copies, in_radio, lent, cancel_turn, result_verdict, repeat_turn, report_turn, delivered_turn, over_verdict, last_verdict, over_turn, lapse_turn, due_turn, idle_turn, tick_turn};
+ghost use Rattle.casting.specs.Types.{Sent, Failed};
+ghost use Rattle.casting.specs.Rules.{turn_b, first_copy, admitted_of, no_copies, in_radio, lent, cancel_turn, result_verdict, repeat_turn, report_turn, delivered_turn, over_verdict, last_verdict, over_turn, lapse_turn, due_turn, idle_turn, tick_turn};
 
 use casting::TurnB;
-use records::{Broadcast, CopyState, Priority, QuorumKey, Schedule, SendFailure, TxResult, Verdict};
+use records::{Broadcast, CopyState, Priority, Schedule, SendFailure, TxResult, Verdict};
 
 fn first_copy(s: Schedule) -> CopyState
     ensures { result ≡ first_copy s }
 {
     match s {
         Schedule::Once => CopyState::CopyQueued,
-        Schedule::PassiveAck {
-            key: _,
-            copies_remaining: _,
-            next_attempt: _,
-        } => CopyState::Idle,
-        Schedule::FixedInterval {
-            interval: _,
-            copies_remaining: _,
-            next_attempt: _,
-        } => CopyState::Idle,
+        Schedule::PassiveAck { .. } | Schedule::FixedInterval { .. } => CopyState::Idle,
     }
 }
 
@@ -38,18 +29,17 @@ pub fn admitted(
     requires { clock ≤ last_time }
     ensures { result ≡ admitted_of id frame waiter priority schedule clock handoff }
 {
-    let c = first_copy(schedule);
     Broadcast {
-        id: id,
-        frame: frame,
-        waiter: waiter,
-        priority: priority,
-        schedule: schedule,
-        copy: c,
+        id,
+        frame,
+        waiter,
+        priority,
+        schedule,
+        copy: first_copy(schedule),
         handed_off: false,
         quorum_heard: false,
         last_error: None,
-        deadline: clock + handoff as u64,
+        deadline: clock + u64::from(handoff),
     }
 }
 
@@ -60,14 +50,12 @@ pub fn no_copies(s: Schedule) -> bool
     match s {
         Schedule::Once => false,
         Schedule::PassiveAck {
-            key: _,
             copies_remaining,
-            next_attempt: _,
-        } => copies_remaining == 0,
-        Schedule::FixedInterval {
-            interval: _,
+            ..
+        }
+        | Schedule::FixedInterval {
             copies_remaining,
-            next_attempt: _,
+            ..
         } => copies_remaining == 0,
     }
 }
@@ -75,47 +63,17 @@ pub fn no_copies(s: Schedule) -> bool
 pub fn in_radio(c: CopyState) -> bool
     ensures { result ≡ in_radio c }
 {
-    match c {
-        CopyState::Idle => false,
-        CopyState::CopyQueued => false,
-        CopyState::CopyTransmitting => true,
-    }
-}
-
-// The broadcast with all that a rule may change.
-fn remake(
-    b: Broadcast,
-    schedule: Schedule,
-    copy: CopyState,
-    handed: bool,
-    heard: bool,
-    last: Option<u16>,
-) -> Broadcast
-    ensures { result ≡ remade b schedule copy handed heard last }
-{
-    let p = b.priority;
-    Broadcast {
-        id: b.id,
-        frame: b.frame,
-        waiter: b.waiter,
-        priority: p,
-        schedule: schedule,
-        copy: copy,
-        handed_off: handed,
-        quorum_heard: heard,
-        last_error: last,
-        deadline: b.deadline,
-    }
+    matches!(c, CopyState::CopyTransmitting)
 }
 
 // A queued copy goes to the radio.
 pub fn dequeued(b: Broadcast) -> Broadcast
     ensures { result ≡ lent b }
 {
-    let s = b.schedule;
-    let e = b.last_error;
-    let c = CopyState::CopyTransmitting;
-    remake(b, s, c, b.handed_off, b.quorum_heard, e)
+    Broadcast {
+        copy: CopyState::CopyTransmitting,
+        ..b
+    }
 }
 
 pub fn cancel(b: Broadcast) -> TurnB
@@ -134,43 +92,46 @@ fn result_verdict(x: TxResult) -> Verdict
 }
 
 // A copy is on the air: the first one is the handoff, unless quorum was heard already, which ends it.
-fn repeat_sent(b: Broadcast, s: Schedule) -> TurnB
-    ensures { turn_b result ≡ repeat_turn b s Sent }
+fn repeat_sent(b: Broadcast, schedule: Schedule) -> TurnB
+    ensures { turn_b result ≡ repeat_turn b schedule Sent }
 {
     if b.quorum_heard {
         return TurnB::SettlesB(true, Verdict::Success);
     }
-    let e = b.last_error;
-    let next = remake(b, s, CopyState::Idle, true, b.quorum_heard, e);
+    let next = Broadcast {
+        schedule,
+        copy: CopyState::Idle,
+        handed_off: true,
+        ..b
+    };
     if b.handed_off {
-        return TurnB::KeepsB(next);
+        TurnB::KeepsB(next)
+    } else {
+        TurnB::HandsOffB(next)
     }
-    TurnB::HandsOffB(next)
 }
 
 // A lost copy ends nothing: its error is kept for the case that none is handed off.
-fn repeat_failed(b: Broadcast, s: Schedule, code: u16) -> TurnB
-    ensures { turn_b result ≡ repeat_turn b s (Failed code) }
+fn repeat_failed(b: Broadcast, schedule: Schedule, code: u16) -> TurnB
+    ensures { turn_b result ≡ repeat_turn b schedule (Failed code) }
 {
     if b.quorum_heard && b.handed_off {
         return TurnB::SettlesB(true, Verdict::Success);
     }
-    TurnB::KeepsB(remake(
-        b,
-        s,
-        CopyState::Idle,
-        b.handed_off,
-        b.quorum_heard,
-        Some(code),
-    ))
+    TurnB::KeepsB(Broadcast {
+        schedule,
+        copy: CopyState::Idle,
+        last_error: Some(code),
+        ..b
+    })
 }
 
-fn repeat(b: Broadcast, s: Schedule, x: TxResult) -> TurnB
-    ensures { turn_b result ≡ repeat_turn b s x }
+fn repeat(b: Broadcast, schedule: Schedule, x: TxResult) -> TurnB
+    ensures { turn_b result ≡ repeat_turn b schedule x }
 {
     match x {
-        TxResult::Sent => repeat_sent(b, s),
-        TxResult::Failed(code) => repeat_failed(b, s, code),
+        TxResult::Sent => repeat_sent(b, schedule),
+        TxResult::Failed(code) => repeat_failed(b, schedule, code),
     }
 }
 
@@ -179,30 +140,29 @@ pub fn report(b: Broadcast, x: TxResult, clock: u64, delay: u32) -> TurnB
     requires { clock ≤ last_time }
     ensures { turn_b result ≡ report_turn x clock delay b }
 {
-    let s = b.schedule;
-    match s {
+    match b.schedule {
         Schedule::Once => TurnB::SettlesB(b.handed_off, result_verdict(x)),
         Schedule::PassiveAck {
             key,
             copies_remaining,
-            next_attempt: _,
+            ..
         } => {
             let next = Schedule::PassiveAck {
-                key: key,
-                copies_remaining: copies_remaining,
-                next_attempt: clock + delay as u64,
+                key,
+                copies_remaining,
+                next_attempt: clock + u64::from(delay),
             };
             repeat(b, next, x)
         }
         Schedule::FixedInterval {
             interval,
             copies_remaining,
-            next_attempt: _,
+            ..
         } => {
             let next = Schedule::FixedInterval {
-                interval: interval,
-                copies_remaining: copies_remaining,
-                next_attempt: clock + interval as u64,
+                interval,
+                copies_remaining,
+                next_attempt: clock + u64::from(interval),
             };
             repeat(b, next, x)
         }
@@ -213,11 +173,11 @@ pub fn report(b: Broadcast, x: TxResult, clock: u64, delay: u32) -> TurnB
 pub fn delivered(b: Broadcast) -> TurnB
     ensures { turn_b result ≡ delivered_turn b }
 {
-    let c = b.copy;
-    if in_radio(c) || !b.handed_off {
-        let s = b.schedule;
-        let e = b.last_error;
-        return TurnB::KeepsB(remake(b, s, c, b.handed_off, true, e));
+    if in_radio(b.copy) || !b.handed_off {
+        return TurnB::KeepsB(Broadcast {
+            quorum_heard: true,
+            ..b
+        });
     }
     TurnB::SettlesB(true, Verdict::Success)
 }
@@ -228,16 +188,8 @@ fn over_verdict(s: Schedule) -> Verdict
 {
     match s {
         Schedule::Once => Verdict::Failure(SendFailure::HandoffTimeout),
-        Schedule::PassiveAck {
-            key: _,
-            copies_remaining: _,
-            next_attempt: _,
-        } => Verdict::Failure(SendFailure::BroadcastQuorumNotReached),
-        Schedule::FixedInterval {
-            interval: _,
-            copies_remaining: _,
-            next_attempt: _,
-        } => Verdict::Success,
+        Schedule::PassiveAck { .. } => Verdict::Failure(SendFailure::BroadcastQuorumNotReached),
+        Schedule::FixedInterval { .. } => Verdict::Success,
     }
 }
 
@@ -255,11 +207,10 @@ fn over(b: Broadcast) -> TurnB
     ensures { turn_b result ≡ over_turn b }
 {
     if b.handed_off {
-        let s = b.schedule;
-        return TurnB::SettlesB(true, over_verdict(s));
+        TurnB::SettlesB(true, over_verdict(b.schedule))
+    } else {
+        TurnB::SettlesB(false, last_verdict(b.last_error))
     }
-    let e = b.last_error;
-    TurnB::SettlesB(false, last_verdict(e))
 }
 
 // It is not over: it fails at its deadline.
@@ -270,24 +221,15 @@ fn lapse(b: Broadcast, clock: u64) -> TurnB
         return TurnB::KeepsB(b);
     }
     if b.handed_off {
-        let s = b.schedule;
-        return TurnB::SettlesB(true, over_verdict(s));
+        TurnB::SettlesB(true, over_verdict(b.schedule))
+    } else {
+        TurnB::SettlesB(false, Verdict::Failure(SendFailure::HandoffTimeout))
     }
-    TurnB::SettlesB(false, Verdict::Failure(SendFailure::HandoffTimeout))
 }
 
-// A copy is due, and one is left, so that the schedule goes on as s.
-fn line_up(b: Broadcast, s: Schedule, clock: u64) -> TurnB
-    ensures { turn_b result ≡ lapse_turn clock (remade b s CopyQueued b.handed_off b.quorum_heard b.last_error) }
-{
-    let e = b.last_error;
-    let c = CopyState::CopyQueued;
-    lapse(remake(b, s, c, b.handed_off, b.quorum_heard, e), clock)
-}
-
-// It is idle, and its next copy comes at `next`.
-fn tick_passive(b: Broadcast, key: QuorumKey, copies: u8, next: u64, clock: u64) -> TurnB
-    ensures { turn_b result ≡ due_turn clock b (PassiveAck key (copies - 1) next) copies next }
+// It is idle, and its next copy comes at `next`: where that is due and one of `copies` is left, the schedule goes on as `left`.
+fn tick_repeating(b: Broadcast, left: Schedule, copies: u8, next: u64, clock: u64) -> TurnB
+    ensures { turn_b result ≡ due_turn clock b left copies next }
 {
     if clock < next {
         return lapse(b, clock);
@@ -295,48 +237,46 @@ fn tick_passive(b: Broadcast, key: QuorumKey, copies: u8, next: u64, clock: u64)
     if copies == 0 {
         return over(b);
     }
-    let left = Schedule::PassiveAck {
-        key: key,
-        copies_remaining: copies - 1,
-        next_attempt: next,
+    let queued = Broadcast {
+        schedule: left,
+        copy: CopyState::CopyQueued,
+        ..b
     };
-    line_up(b, left, clock)
-}
-
-fn tick_fixed(b: Broadcast, interval: u32, copies: u8, next: u64, clock: u64) -> TurnB
-    ensures { turn_b result ≡ due_turn clock b (FixedInterval interval (copies - 1) next) copies next }
-{
-    if clock < next {
-        return lapse(b, clock);
-    }
-    if copies == 0 {
-        return over(b);
-    }
-    let left = Schedule::FixedInterval {
-        interval: interval,
-        copies_remaining: copies - 1,
-        next_attempt: next,
-    };
-    line_up(b, left, clock)
+    lapse(queued, clock)
 }
 
 // It is idle: a copy may be due.
 fn tick_idle(b: Broadcast, clock: u64) -> TurnB
     ensures { turn_b result ≡ idle_turn clock b b.schedule }
 {
-    let s = b.schedule;
-    match s {
+    match b.schedule {
         Schedule::Once => lapse(b, clock),
         Schedule::PassiveAck {
             key,
             copies_remaining,
             next_attempt,
-        } => tick_passive(b, key, copies_remaining, next_attempt, clock),
+        } => {
+            let fewer = copies_remaining.saturating_sub(1);
+            let left = Schedule::PassiveAck {
+                key,
+                copies_remaining: fewer,
+                next_attempt,
+            };
+            tick_repeating(b, left, copies_remaining, next_attempt, clock)
+        }
         Schedule::FixedInterval {
             interval,
             copies_remaining,
             next_attempt,
-        } => tick_fixed(b, interval, copies_remaining, next_attempt, clock),
+        } => {
+            let fewer = copies_remaining.saturating_sub(1);
+            let left = Schedule::FixedInterval {
+                interval,
+                copies_remaining: fewer,
+                next_attempt,
+            };
+            tick_repeating(b, left, copies_remaining, next_attempt, clock)
+        }
     }
 }
 
@@ -344,8 +284,7 @@ fn tick_idle(b: Broadcast, clock: u64) -> TurnB
 pub fn tick(b: Broadcast, clock: u64) -> TurnB
     ensures { turn_b result ≡ tick_turn clock b }
 {
-    let c = b.copy;
-    match c {
+    match b.copy {
         CopyState::Idle => tick_idle(b, clock),
         CopyState::CopyQueued => lapse(b, clock),
         CopyState::CopyTransmitting => TurnB::KeepsB(b),

@@ -8,7 +8,7 @@ ghost use Rattle.model.specs.Calls.{wake_of};
 ghost use Rattle.model.specs.Sound.{Sound};
 
 use model::{Counts, Sends};
-use records::Address;
+use records::{Address, Broadcast, Destination, Unicast, Unrouted};
 
 // Tables with no send; the first id they issue is given.
 pub fn fresh(first: u32) -> Sends
@@ -23,10 +23,10 @@ pub fn fresh(first: u32) -> Sends
             held: 0,
             broadcasts: 0,
         },
-        unicasts: tables::unicast_rows::fresh(),
-        unrouted: tables::unrouted_rows::fresh(),
-        held: tables::destination_rows::fresh(),
-        broadcasts: tables::broadcast_rows::fresh(),
+        unicasts: tables::fresh::<Unicast, 320>(),
+        unrouted: tables::fresh::<Unrouted, 112>(),
+        held: tables::fresh::<Destination, 32>(),
+        broadcasts: tables::fresh::<Broadcast, 112>(),
     }
 }
 

@@ -170,7 +170,13 @@ pub fn transmitted(
 }
 
 // A device polls, under either address: its oldest frame is queued ahead of everything else. Answers whether there was one.
-pub fn poll(s: Sends, told: &mut [u64; 560], eui: Option<u64>, nwk: Option<u16>, clock: u64) -> Answered
+pub fn poll(
+    s: Sends,
+    told: &mut [u64; 560],
+    eui: Option<u64>,
+    nwk: Option<u16>,
+    clock: u64,
+) -> Answered
     requires { Sound s }
     ensures value { result ≡ answered_of (poll_of (model_of s) eui nwk clock) }
     ensures leaving { Leaving (poll_of (model_of s) eui nwk clock) told.old told.new result }
@@ -288,7 +294,12 @@ pub fn broadcast_delivered(s: Sends, told: &mut [u64; 560], key: QuorumKey) -> A
 }
 
 // A device is no child any more: what awaits its poll fails.
-pub fn drop_indirect_unicasts(s: Sends, told: &mut [u64; 560], eui: Option<u64>, nwk: u16) -> Answered
+pub fn drop_indirect_unicasts(
+    s: Sends,
+    told: &mut [u64; 560],
+    eui: Option<u64>,
+    nwk: u16,
+) -> Answered
     requires { Sound s }
     ensures value { result ≡ answered_of (drop_of (model_of s) eui nwk) }
     ensures leaving { Leaving (drop_of (model_of s) eui nwk) told.old told.new result }

@@ -32,10 +32,10 @@ fn finish(
     requires m_bound { m + 2 ≤ 112 }
     ensures { Played unicast_table unicast_entry (Settles again v hop) i (get_or (rows_of unicast_table w.old) i blank_unicast) w.old n told.old m w.new (n - 1) told.new result }
 {
-    let u = tables::unicast_rows::load(w, i);
+    let u = tables::load::<Unicast>(w, i);
     let e = records::blanks::unicast_entry(u);
     let next = actions::settle_again(told, m, e, again, v, hop);
-    tables::unicast_rows::remove_at(w, n, i);
+    tables::remove_at::<Unicast>(w, n, i);
     next
 }
 
@@ -58,13 +58,13 @@ fn play(
 {
     match t {
         UnicastTurn::KeepsU(v) => {
-            tables::unicast_rows::store(w, n, i, v);
+            tables::store(w, n, i, v);
             Counts { sends: n, told: m }
         }
         UnicastTurn::HandsOffU(v) => {
             let e = records::blanks::unicast_entry(u);
             let next = actions::hand_off(told, m, e);
-            tables::unicast_rows::store(w, n, i, v);
+            tables::store(w, n, i, v);
             Counts {
                 sends: n,
                 told: next,
@@ -85,7 +85,7 @@ pub fn enqueue(w: &mut [u64; 320], n: usize, u: Unicast) -> Option<usize>
     requires { Held unicast_table w.old n }
     ensures { Entered unicast_table w.old n u w.new result }
 {
-    tables::unicast_rows::insert(w, n, u)
+    tables::insert(w, n, u)
 }
 
 // A device polls: its oldest frame is queued ahead of everything else.
@@ -96,9 +96,9 @@ pub fn poll(w: &mut [u64; 320], n: usize, eui: Option<u64>, nwk: Option<u16>, cl
     match scanning::asks::first_awaited(w, n, eui, nwk, clock) {
         None => false,
         Some(i) => {
-            let u = tables::unicast_rows::load(w, i);
+            let u = tables::load::<Unicast>(w, i);
             let v = turning::rules::polled(u);
-            tables::unicast_rows::store(w, n, i, v);
+            tables::store(w, n, i, v);
             true
         }
     }
@@ -109,14 +109,14 @@ pub fn dequeue(w: &mut [u64; 320], n: usize, id: u32) -> Option<(u32, u16, bool)
     requires { Held unicast_table w.old n }
     ensures { Dequeued id w.old n w.new result }
 {
-    match tables::unicast_rows::find(w, n, id) {
+    match tables::find::<Unicast>(w, n, id) {
         None => None,
         Some(i) => {
-            let u = tables::unicast_rows::load(w, i);
+            let u = tables::load::<Unicast>(w, i);
             let a = u.poll_address;
             let pending = scanning::asks::frame_pending(w, n, id, a);
             let v = turning::rules::staged(u, Stage::Transmitting(false));
-            tables::unicast_rows::store(w, n, i, v);
+            tables::store(w, n, i, v);
             Some((u.frame, u.next_hop, pending))
         }
     }
@@ -131,7 +131,7 @@ pub fn ack(w: &mut [u64; 320], n: usize, told: &mut [u64; 560], m: usize, key: A
     match scanning::asks::first_keyed(w, n, key) {
         None => Counts { sends: n, told: m },
         Some(i) => {
-            let u = tables::unicast_rows::load(w, i);
+            let u = tables::load::<Unicast>(w, i);
             let t = turning::rules::ack_turn(u);
             play(w, n, told, m, i, u, t)
         }
@@ -155,10 +155,10 @@ pub fn report(
     requires clock_le_last_time { clock ≤ last_time }
     ensures { Called (report_bar frame) (report_turn res clock delay) id w.old n told.old m w.new told.new result }
 {
-    match tables::unicast_rows::find(w, n, id) {
+    match tables::find::<Unicast>(w, n, id) {
         None => Outcome::Refused(Refusal::NoSuchSend),
         Some(i) => {
-            let u = tables::unicast_rows::load(w, i);
+            let u = tables::load::<Unicast>(w, i);
             let s = u.stage;
             if turning::rules::is_sending(s) {
                 if u.frame == frame {
@@ -179,10 +179,10 @@ pub fn cancel(w: &mut [u64; 320], n: usize, told: &mut [u64; 560], m: usize, id:
     requires m_bound { m + 2 ≤ 112 }
     ensures { Called cancel_bar cancel_turn id w.old n told.old m w.new told.new result }
 {
-    match tables::unicast_rows::find(w, n, id) {
+    match tables::find::<Unicast>(w, n, id) {
         None => Outcome::Refused(Refusal::NoSuchSend),
         Some(i) => {
-            let u = tables::unicast_rows::load(w, i);
+            let u = tables::load::<Unicast>(w, i);
             let s = u.stage;
             if turning::rules::is_sending(s) {
                 return Outcome::Refused(Refusal::InTheRadio);
@@ -200,9 +200,9 @@ fn requeue(w: &mut [u64; 320], n: usize, i: usize)
     requires i_lt_n { i < n }
     ensures { Holds unicast_table w.new n (set (live unicast_table w.old n) i (with_stage (get_or (rows_of unicast_table w.old) i blank_unicast) Queued)) }
 {
-    let u = tables::unicast_rows::load(w, i);
+    let u = tables::load::<Unicast>(w, i);
     let v = turning::rules::staged(u, Stage::Queued);
-    tables::unicast_rows::store(w, n, i, v);
+    tables::store(w, n, i, v);
 }
 
 // Every send has its turn.
@@ -279,5 +279,5 @@ pub fn cancel_copies(
 pub fn abandon(w: &mut [u64; 320])
     ensures { Holds unicast_table w.new 0 [] }
 {
-    *w = tables::unicast_rows::fresh();
+    *w = tables::fresh::<Unicast, 320>();
 }

@@ -108,10 +108,10 @@ fn drop_at(
     requires m_bound { m < 112 }
     ensures { Played unrouted_table unrouted_entry (Settles false (Failure f) None) i (get_or (rows_of unrouted_table w.old) i blank_unrouted) w.old n told.old m w.new (n - 1) told.new result }
 {
-    let u = tables::unrouted_rows::load(w, i);
+    let u = tables::load::<Unrouted>(w, i);
     let e = records::blanks::unrouted_entry(u);
     let next = actions::settle(told, m, e, Verdict::Failure(f), None);
-    tables::unrouted_rows::remove_at(w, n, i);
+    tables::remove_at::<Unrouted>(w, n, i);
     next
 }
 
@@ -218,8 +218,8 @@ pub fn take(w: &mut [u64; 112], n: usize, destination: u16) -> Option<Unrouted>
     match first_to(w, n, destination) {
         None => None,
         Some(i) => {
-            let u = tables::unrouted_rows::load(w, i);
-            tables::unrouted_rows::remove_at(w, n, i);
+            let u = tables::load::<Unrouted>(w, i);
+            tables::remove_at::<Unrouted>(w, n, i);
             Some(u)
         }
     }
@@ -231,7 +231,7 @@ pub fn cancel(w: &mut [u64; 112], n: usize, told: &mut [u64; 560], m: usize, id:
     requires m_bound { m < 112 }
     ensures { Turned unrouted_table unrouted_entry (has_id unrouted_entry id) cancel_turn w.old n told.old m w.new result.sends told.new result.told }
 {
-    match tables::unrouted_rows::find(w, n, id) {
+    match tables::find::<Unrouted>(w, n, id) {
         None => Counts { sends: n, told: m },
         Some(i) => {
             let next = drop_at(w, n, told, m, i, SendFailure::Cancelled);
@@ -249,7 +249,7 @@ pub fn is_held(d: &[u64; 32], k: usize, destination: u16) -> bool
     requires { Held destination_table d.now k }
     ensures { result ≡ is_held destination (live destination_table d.now k) }
 {
-    match tables::destination_rows::find(d, k, destination) {
+    match tables::find::<Destination>(d, k, destination as u32) {
         Some(_) => true,
         None => false,
     }
@@ -260,7 +260,7 @@ pub fn destination_at(d: &[u64; 32], i: usize) -> u16
     requires { i < 16 }
     ensures { result ≡ (get_or (rows_of destination_table d.now) i blank_destination).address }
 {
-    let h = tables::destination_rows::load(d, i);
+    let h = tables::load::<Destination>(d, i);
     h.address
 }
 
@@ -270,7 +270,7 @@ fn enter(w: &mut [u64; 112], n: usize, u: Unrouted) -> usize
     requires n_bound { n < 16 }
     ensures { Holds unrouted_table w.new result (insert_by unrouted_id u (live unrouted_table w.old n)) }
 {
-    match tables::unrouted_rows::insert(w, n, u) {
+    match tables::insert(w, n, u) {
         None => n,
         Some(m) => m,
     }
@@ -295,7 +295,7 @@ fn hold(d: &mut [u64; 32], k: usize, destination: u16, attempts: u8) -> usize
         address: destination,
         retries: restarts(attempts),
     };
-    match tables::destination_rows::insert(d, k, h) {
+    match tables::insert(d, k, h) {
         None => k,
         Some(m) => m,
     }
@@ -341,10 +341,10 @@ pub fn retry_discovery(
     requires held_2 { Held destination_table d.old k }
     ensures { Retried destination w.now n d.old k d.new result }
 {
-    match tables::destination_rows::find(d, k, destination) {
+    match tables::find::<Destination>(d, k, destination as u32) {
         None => Retry::NotHeld,
         Some(i) => {
-            let h = tables::destination_rows::load(d, i);
+            let h = tables::load::<Destination>(d, i);
             if h.retries == 0 {
                 return Retry::Declined;
             }
@@ -355,7 +355,7 @@ pub fn retry_discovery(
                 address: h.address,
                 retries: h.retries - 1,
             };
-            tables::destination_rows::store(d, k, i, spent);
+            tables::store(d, k, i, spent);
             Retry::Granted
         }
     }
@@ -376,7 +376,7 @@ pub fn fail(
     requires n_bound { m + n * 2 ≤ 112 }
     ensures { FailedAll destination w.old n d.old k told.old m w.new d.new told.new result }
 {
-    let held = tables::destination_rows::remove(d, k, destination);
+    let held = tables::remove::<Destination>(d, k, destination as u32);
     let counts = sweep(w, n, told, m, Which::Bound(destination));
     Failed {
         sends: counts.sends,
@@ -389,6 +389,6 @@ pub fn fail(
 pub fn abandon(w: &mut [u64; 112], d: &mut [u64; 32])
     ensures { Abandoned w.new d.new }
 {
-    *w = tables::unrouted_rows::fresh();
-    *d = tables::destination_rows::fresh();
+    *w = tables::fresh::<Unrouted, 112>();
+    *d = tables::fresh::<Destination, 32>();
 }

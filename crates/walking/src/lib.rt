@@ -9,6 +9,7 @@ ghost use Rattle.runs.specs.Run.{Ran};
 
 use framing::Standing;
 use model::Counts;
+use records::{Broadcast, Destination, Unicast, Unrouted};
 
 // No send is there, and the first id is 0.
 fn no_sends() -> Counts
@@ -39,10 +40,10 @@ pub fn walk(trace: &[u8], out: &mut [u8]) -> usize
     requires trace_len_bound { length trace.now ≤ 65536 }
     ensures { Ran trace.now out.old result out.new }
 {
-    let mut w = tables::unicast_rows::fresh();
-    let mut v = tables::unrouted_rows::fresh();
-    let mut d = tables::destination_rows::fresh();
-    let mut b = tables::broadcast_rows::fresh();
+    let mut w = tables::fresh::<Unicast, 320>();
+    let mut v = tables::fresh::<Unrouted, 112>();
+    let mut d = tables::fresh::<Destination, 32>();
+    let mut b = tables::fresh::<Broadcast, 112>();
     let mut told: [u64; 560] = [0; 560];
     let mut eui: [u64; 32] = [0; 32];
     let mut nwk: [u16; 32] = [0; 32];
