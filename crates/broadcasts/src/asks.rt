@@ -7,7 +7,7 @@ ghost use Rattle.rows.specs.Moves.{any_of};
 ghost use Rattle.tables.specs.Layouts.{broadcast_table, broadcast_head};
 ghost use Rattle.casting.specs.Rules.{best_head, best_of, may_stir, wake_of, is_transmitting, awaited_head};
 
-use records::{Broadcast, CopyState};
+use records::{Broadcast, CopyState, QuorumKey};
 
 // The better of the broadcast at a place and the best of those with higher ids. One that is not ready is not read further.
 fn best_at(w: &[u64; 112], i: usize, clock: u64, best: Option<(u32, u8)>) -> Option<(u32, u8)>

@@ -6,6 +6,7 @@ use crate::Event;
 use fields::numbers::{byte_at, u16_at, u32_at, u64_at};
 use fields::parts::{address_at, confirm_at, priority_by, schedule_at};
 use model::{NewBroadcast, NewUnicast, NewUnrouted};
+use records::{Address, Confirm, Priority, Schedule};
 
 // ---- a unicast
 

@@ -5,7 +5,8 @@ ghost use Rattle.events.specs.Signals.{settings_in, settings_of, dequeue_of, rep
 use crate::Event;
 use fields::numbers::{byte_at, u16_at, u32_at, u64_at};
 use fields::parts::{address_at, key_at, lender_by, opt16_by, opt64_by, result_by};
-use records::{Address, QuorumKey, Settings};
+use model::Lender;
+use records::{Address, QuorumKey, Settings, TxResult};
 
 pub fn settings_in(b: &[u8]) -> Settings
     requires { 10 ≤ length b.now }
@@ -80,7 +81,11 @@ pub fn decode_report(b: &[u8]) -> Event
 
 // ---- the network
 
-pub(crate) fn poll_with(clock: u64, extended: Option<Option<u64>>, short: Option<Option<u16>>) -> Event
+pub(crate) fn poll_with(
+    clock: u64,
+    extended: Option<Option<u64>>,
+    short: Option<Option<u16>>,
+) -> Event
     ensures { result ≡ poll_with clock extended short }
 {
     match extended {

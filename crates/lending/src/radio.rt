@@ -7,7 +7,7 @@ ghost use Rattle.model.specs.declared.Lender.TheVariants.{FromUnicasts, FromBroa
 ghost use Rattle.lending.specs.Choices.{chosen_of};
 
 use model::{Answer, Counts, Did, Lender, Transmit};
-use records::{Refusal, TxResult};
+use records::{Priority, Refusal, TxResult};
 use unicasts::Outcome;
 
 // The send that goes to the radio, if one does.

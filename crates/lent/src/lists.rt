@@ -10,7 +10,7 @@ ghost use Rattle.model.specs.Steps.{members_of};
 ghost use Rattle.doing.specs.Parts.{Listed};
 ghost use Rattle.lent.specs.Fills.{Filled, Matching};
 
-use records::{Broadcast, Entry, Unicast, Unrouted};
+use records::{Broadcast, Entry, QuorumKey, Unicast, Unrouted};
 use sending::Book;
 
 // The slices are no address map, or how many members the set has.

@@ -8,7 +8,7 @@ ghost use Rattle.tables.specs.Layouts.{unicast_table};
 ghost use Rattle.sending.specs.Rules.{keyed, awaits, stirs, sought, pends, beside, sent_copy};
 ghost use Rattle.sending.specs.Lists.{best_step, best_of, wake_of};
 
-use records::{AckKey, Address, Stage};
+use records::{AckKey, Address, Priority, Stage};
 use sending::Sought;
 
 // Where the oldest send stands that is sought.
@@ -55,7 +55,13 @@ fn awaited_at(w: &[u64; 320], at: usize, eui: Option<u64>, nwk: Option<u16>, clo
 }
 
 // Where the oldest send stands that awaits a poll of the device.
-pub fn first_awaited(w: &[u64; 320], n: usize, eui: Option<u64>, nwk: Option<u16>, clock: u64) -> Option<usize>
+pub fn first_awaited(
+    w: &[u64; 320],
+    n: usize,
+    eui: Option<u64>,
+    nwk: Option<u16>,
+    clock: u64,
+) -> Option<usize>
     requires { Held unicast_table w.now n }
     ensures { result ≡ first_at (awaits eui nwk clock) (live unicast_table w.now n) }
 {
@@ -140,7 +146,12 @@ pub fn copy_in_radio(w: &[u64; 320], n: usize, id: u32) -> bool
 }
 
 // The better of the send at a place and the best of those behind it.
-fn best_at(w: &[u64; 320], i: usize, clock: u64, best: Option<(u32, Priority)>) -> Option<(u32, Priority)>
+fn best_at(
+    w: &[u64; 320],
+    i: usize,
+    clock: u64,
+    best: Option<(u32, Priority)>,
+) -> Option<(u32, Priority)>
     requires { i < 32 }
     ensures { result ≡ best_step clock (get_or (rows_of unicast_table w.now) i blank_unicast) best }
 {
