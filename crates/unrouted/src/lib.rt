@@ -3,6 +3,7 @@
 
 ghost use Rattle.std.specs.Prelude.{◌≡◌, true, false, ◌+◌, ◌*◌, ◌-◌, ◌≤◌, ◌<◌, get_or, None};
 ghost use Rattle.records.specs.Limits.{last_time};
+ghost use Rattle.records.specs.Pick.{bit};
 ghost use Rattle.records.specs.Records.{unrouted_id, unrouted_entry, blank_unrouted, blank_destination, destination_address};
 ghost use Rattle.records.specs.declared.Verdict.TheVariants.{Failure};
 ghost use Rattle.rows.specs.Lists.{insert_by};
@@ -14,7 +15,10 @@ ghost use Rattle.actions.specs.Calls.{Swept, Turned, Played};
 ghost use Rattle.unrouted.specs.Rules.{admitted_of, chosen_head, failure_of, sweep_turn, cancel_turn, goes_to, left_to, left_head, wake_of, is_held, newly_held};
 ghost use Rattle.unrouted.specs.Calls.{Enqueued, Retried, FailedAll, Taken, Abandoned};
 
+use records::blanks::unrouted_entry;
+use records::times::sooner_of;
 use records::{Confirm, Destination, Priority, SendFailure, Unrouted, Verdict};
+use tables::unrouted_rows;
 use tables::unrouted_rows::UnroutedHead;
 
 // The sends that a sweep settles: those whose deadline has come by a time, or those to a destination.
@@ -64,13 +68,13 @@ pub fn admitted(
     ensures { result ≡ admitted_of id frame waiter priority confirm destination clock handoff }
 {
     Unrouted {
-        id: id,
-        frame: frame,
-        waiter: waiter,
-        priority: priority,
-        confirm: confirm,
-        destination: destination,
-        deadline: clock + handoff as u64,
+        id,
+        frame,
+        waiter,
+        priority,
+        confirm,
+        destination,
+        deadline: clock + u64::from(handoff),
     }
 }
 
@@ -109,13 +113,14 @@ fn drop_at(
     ensures { Played unrouted_table unrouted_entry (Settles false (Failure f) None) i (get_or (rows_of unrouted_table w.old) i blank_unrouted) w.old n told.old m w.new (n - 1) told.new result }
 {
     let u = tables::load::<Unrouted>(w, i);
-    let e = records::blanks::unrouted_entry(u);
+    let e = unrouted_entry(u);
     let next = actions::settle(told, m, e, Verdict::Failure(f), None);
     tables::remove_at::<Unrouted>(w, n, i);
     next
 }
 
-// Every chosen send is settled: a tick, and a failed discovery.
+// Every chosen send is settled: a tick, and a failed discovery. The loop is no `for`, since the send that follows one that is
+// taken out then stands in its place.
 pub fn sweep(
     w: &mut [u64; 112],
     sends: usize,
@@ -129,13 +134,13 @@ pub fn sweep(
 {
     let mut n = sends;
     let mut m = at;
-    let mut i: usize = 0;
+    let mut i = 0;
     while i < n {
-        if chosen(tables::unrouted_rows::head(w, i), which) {
+        if chosen(unrouted_rows::head(w, i), which) {
             m = drop_at(w, n, told, m, i, failure(which));
-            n = n - 1;
+            n -= 1;
         } else {
-            i = i + 1;
+            i += 1;
         }
     }
     Counts { sends: n, told: m }
@@ -146,17 +151,11 @@ pub fn first_to(w: &[u64; 112], n: usize, destination: u16) -> Option<usize>
     requires { Held unrouted_table w.now n }
     ensures { result ≡ first_at (goes_to destination) (live unrouted_table w.now n) }
 {
-    let mut at: usize = 0;
-    while at < n {
-        if chosen(
-            tables::unrouted_rows::head(w, at),
-            Which::Bound(destination),
-        ) {
-            return Some(at);
-        }
-        at = at + 1;
+    let which = Which::Bound(destination);
+    match (0..n).find(|i| chosen(unrouted_rows::head(w, *i), which)) {
+        Some(i) => Some(i),
+        None => None,
     }
-    None
 }
 
 // Whether a send waits for a destination's route.
@@ -164,21 +163,14 @@ pub fn waits(w: &[u64; 112], n: usize, destination: u16) -> bool
     requires { Held unrouted_table w.now n }
     ensures { result ≡ any_of (goes_to destination) (live unrouted_table w.now n) }
 {
-    match first_to(w, n, destination) {
-        Some(_) => true,
-        None => false,
-    }
+    let which = Which::Bound(destination);
+    (0..n).any(|i| chosen(unrouted_rows::head(w, i), which))
 }
 
-fn one_if_left(h: UnroutedHead, destination: u16, clock: u64) -> usize
-    ensures { result ≡ left_head destination clock h }
+fn is_left(h: UnroutedHead, destination: u16, clock: u64) -> bool
+    ensures { bit result ≡ left_head destination clock h }
 {
-    if h.destination == destination {
-        if clock < h.deadline {
-            return 1;
-        }
-    }
-    0
+    h.destination == destination && clock < h.deadline
 }
 
 // How many sends to a destination a tick would leave.
@@ -186,13 +178,9 @@ pub fn left_to(w: &[u64; 112], n: usize, destination: u16, clock: u64) -> usize
     requires { Held unrouted_table w.now n }
     ensures { result ≡ count (left_to clock destination) (live unrouted_table w.now n) }
 {
-    let mut left: usize = 0;
-    let mut i = n;
-    while 0 < i {
-        i = i - 1;
-        left = one_if_left(tables::unrouted_rows::head(w, i), destination, clock) + left;
-    }
-    left
+    (0..n)
+        .filter(|i| is_left(unrouted_rows::head(w, *i), destination, clock))
+        .count()
 }
 
 // The least deadline.
@@ -200,14 +188,10 @@ pub fn next_wake(w: &[u64; 112], n: usize) -> Option<u64>
     requires { Held unrouted_table w.now n }
     ensures { result ≡ wake_of (live unrouted_table w.now n) }
 {
-    let mut wake = None;
-    let mut i = n;
-    while 0 < i {
-        let h = tables::unrouted_rows::head(w, i - 1);
-        wake = records::times::sooner_of(h.deadline, wake);
-        i = i - 1;
-    }
-    wake
+    (0..n).rev().fold(
+        None,
+        |wake, i| sooner_of(unrouted_rows::head(w, i).deadline, wake),
+    )
 }
 
 // Takes the oldest send to a destination out, for a route to go on with.
@@ -249,10 +233,10 @@ pub fn is_held(d: &[u64; 32], k: usize, destination: u16) -> bool
     requires { Held destination_table d.now k }
     ensures { result ≡ is_held destination (live destination_table d.now k) }
 {
-    match tables::find::<Destination>(d, k, destination as u32) {
-        Some(_) => true,
-        None => false,
-    }
+    matches!(
+        tables::find::<Destination>(d, k, destination as u32),
+        Some(_)
+    )
 }
 
 // The held destination at a place; they rise from place to place.
@@ -260,8 +244,7 @@ pub fn destination_at(d: &[u64; 32], i: usize) -> u16
     requires { i < 16 }
     ensures { result ≡ (get_or (rows_of destination_table d.now) i blank_destination).address }
 {
-    let h = tables::load::<Destination>(d, i);
-    h.address
+    tables::load::<Destination>(d, i).address
 }
 
 // The send enters under its id, where a place is free.
@@ -276,16 +259,7 @@ fn enter(w: &mut [u64; 112], n: usize, u: Unrouted) -> usize
     }
 }
 
-fn restarts(attempts: u8) -> u8
-    ensures { result ≡ attempts - 1 }
-{
-    if attempts == 0 {
-        return 0;
-    }
-    attempts - 1
-}
-
-// A new destination is held, where a place is free.
+// A new destination is held, with a restart for each attempt after the first, where a place is free.
 fn hold(d: &mut [u64; 32], k: usize, destination: u16, attempts: u8) -> usize
     requires held { Held destination_table d.old k }
     requires k_bound { k < 16 }
@@ -293,7 +267,7 @@ fn hold(d: &mut [u64; 32], k: usize, destination: u16, attempts: u8) -> usize
 {
     let h = Destination {
         address: destination,
-        retries: restarts(attempts),
+        retries: attempts.saturating_sub(1),
     };
     match tables::insert(d, k, h) {
         None => k,
@@ -345,15 +319,12 @@ pub fn retry_discovery(
         None => Retry::NotHeld,
         Some(i) => {
             let h = tables::load::<Destination>(d, i);
-            if h.retries == 0 {
-                return Retry::Declined;
-            }
-            if !waits(w, n, destination) {
+            if h.retries == 0 || !waits(w, n, destination) {
                 return Retry::Declined;
             }
             let spent = Destination {
-                address: h.address,
                 retries: h.retries - 1,
+                ..h
             };
             tables::store(d, k, i, spent);
             Retry::Granted
@@ -380,7 +351,7 @@ pub fn fail(
     let counts = sweep(w, n, told, m, Which::Bound(destination));
     Failed {
         sends: counts.sends,
-        held: held,
+        held,
         told: counts.told,
     }
 }

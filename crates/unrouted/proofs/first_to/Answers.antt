@@ -1,17 +1,22 @@
-use native.Mathlib.Omega.{arith}
-use Rattle.rows.specs.Tables.{live}
-use Rattle.tables.specs.Layouts.{unrouted_table}
-use Rattle.unrouted.specs.Types.{Bound}
+use mathlib.Core.Path.{◌≡◌, sym, ap}
+use mathlib.Core.Bool.{true, false}
+use Rattle.std.proofs.Common.{rules, tests, Some, None}
+use Rattle.std.proofs.lemmas.Iterator.{first_from_Range}
+use Rattle.rows.proofs.Chains.{place-found, place-missed}
 use Rattle.unrouted.specs.Rules.{goes_to}
-use Rattle.rows.proofs.Promises.{scan-first, scan-here}
-use Rattle.unrouted.proofs.Turns.{row_at, tested}
+use Rattle.unrouted.proofs.Turns.{row_at}
 use Rattle.unrouted.proofs.first_to.Goals as goal
 
-pub loop-at-init : goal.loop-at-init
-loop-at-init c = (omega arith, scan-first (goes_to c.args.destination) (live unrouted_table c.args.w.now c.args.n))
+pub returns-in-Some : goal.returns-in-Some
+returns-in-Some c =
+    let goes = goes_to c.args.destination in
+    let first = first_from_Range _ _ _ (Some c.in-Some.i) (λ k. goes (row_at c.args.w.now k) ≡ true) (λ k. goes (row_at c.args.w.now k) ≡ false) c.in-Some.ensures.ran
+    (λ x q k. search (rules, tests)) (λ x q k. search (rules, tests)) in
+    sym ((place-found c.requires goes c.in-Some.i first.1 first.2 first.3))
 
-pub returns-then-chosen : goal.returns-then-chosen
-returns-then-chosen c =
-    let at = c.loop-at in
-    scan-here c.requires (goes_to c.args.destination) at.at at.invariant.1 (omega arith)
-    (tested (Bound c.args.destination) (row_at c.args.w.now at.at) c.head.ensures c.chosen.ensures c.if-chosen.true)
+pub returns-in-None : goal.returns-in-None
+returns-in-None c =
+    let goes = goes_to c.args.destination in
+    let first = first_from_Range _ _ _ None (λ k. goes (row_at c.args.w.now k) ≡ true) (λ k. goes (row_at c.args.w.now k) ≡ false) c.in-None.ensures.ran
+    (λ x q k. search (rules, tests)) (λ x q k. search (rules, tests)) in
+    sym ((place-missed c.requires goes first))

@@ -18,7 +18,7 @@ returns-in-Some c =
     sym (first_found (held_at c.args.destination) Keeps blank_destination (live destination_table c.args.d.now c.args.k) _ (sym (find_first destination_address c.args.destination (live destination_table c.args.d.now c.args.k))
     ∙ (sym c.find.ensures)) ∙ c.in-Some.is).any
 
-pub returns-in-None : goal.returns-in-None
-returns-in-None c =
+pub returns-in_default : goal.returns-in_default
+returns-in_default c =
     sym (first-missed (held_at c.args.destination) Keeps (live destination_table c.args.d.now c.args.k) (sym (find_first destination_address c.args.destination (live destination_table c.args.d.now c.args.k))
-    ∙ (sym c.find.ensures)) ∙ c.in-None.is).any
+    ∙ (sym c.find.ensures)) ∙ c.in_default.is).any

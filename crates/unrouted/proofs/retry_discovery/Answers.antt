@@ -1,7 +1,7 @@
 use Rattle.std.specs.Prelude.{Some}
 use Prim.Native.Nat.{◌-◌}
 use native.Mathlib.Omega.{arith}
-use mathlib.Core.Path.{sym, ap, ◌∙◌}
+use mathlib.Core.Path.{◌≡◌, sym, ap, ◌∙◌}
 use lib.Dec.{eqb}
 use Rattle.records.specs.Records.{blank_destination, destination_address}
 use Rattle.records.specs.declared.Destination.{Destination}
@@ -11,7 +11,10 @@ use Rattle.rows.specs.Moves.Turn.{Keeps}
 use Rattle.tables.specs.Layouts.{unrouted_table, destination_table}
 use Rattle.rows.proofs.Promises.{hit-lt, hit-lookup, miss-lookup, held_at, held-holds, find_first, first_found}
 use Rattle.unrouted.proofs.Lists.{not-held, none_left, none-waits, spends}
+use Rattle.unrouted.specs.Types.{Declined}
+use Rattle.unrouted.specs.Rules.{retry_of}
 use Rattle.unrouted.proofs.retry_discovery.Goals as goal
+use Rattle.unrouted.proofs.retry_discovery.Goals.{then-h-eq0-via-then-h-eq0, then-h-eq0-via-else-h-eq0+then-not-waits}
 
 -- one restart less
 abbrev spent : Destination → Turn Destination
@@ -23,15 +26,14 @@ load-h-requires c = omega (arith, hit-lt c.requires.held_2 _ _ ((sym c.find.ensu
 pub returns-then-h-eq0 : goal.returns-then-h-eq0
 returns-then-h-eq0 c =
     let e = hit-lookup c.requires.held_2 _ _ ((sym c.find.ensures) ∙ c.in-Some.is) ∙ ap Some (sym c.load-h.ensures) in
-    record { answer = none_left c.args.destination (live unrouted_table c.args.w.now c.args.n) (live destination_table c.args.d.now c.args.k) _ e c.if-h-eq0.true; table = held-holds c.requires.held_2 }
-
-pub returns-then-not-waits : goal.returns-then-not-waits
-returns-then-not-waits c =
-    let e = hit-lookup c.requires.held_2 _ _ ((sym c.find.ensures) ∙ c.in-Some.is) in
-    record {
-      answer = none-waits c.args.destination (live unrouted_table c.args.w.now c.args.n) (live destination_table c.args.d.now c.args.k) _ e (sym c.waits.ensures ∙ c.if-not-waits.true);
-      table = held-holds c.requires.held_2;
-    }
+    let us = live unrouted_table c.args.w.now c.args.n in
+    let hs = live destination_table c.args.d.now c.args.k in
+    let no : Declined ≡ retry_of c.args.destination us hs =
+    elim c.then-h-eq0.branch [
+      | then-h-eq0-via-then-h-eq0 w ↦ none_left c.args.destination us hs _ e w.if-h-eq0.true
+      | then-h-eq0-via-else-h-eq0+then-not-waits w ↦ none-waits c.args.destination us hs _ e (sym w.waits.ensures ∙ w.if-not-waits.true)
+    ] in
+    record { answer = no; table = held-holds c.requires.held_2 }
 
 pub returns-in-None : goal.returns-in-None
 returns-in-None c =

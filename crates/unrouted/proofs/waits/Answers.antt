@@ -1,16 +1,14 @@
-use mathlib.Core.Path.{sym, ◌∙◌}
-use Rattle.records.specs.Records.{blank_unrouted}
-use Rattle.rows.specs.Tables.{live}
-use Rattle.rows.specs.Moves.Turn.{Keeps}
-use Rattle.tables.specs.Layouts.{unrouted_table}
+use mathlib.Core.Path.{refl, ◌∙◌}
+use Rattle.std.proofs.Common.{rules, tests, arith}
+use Rattle.std.proofs.lemmas.Iterator.{YieldsList-from_range}
+use Rattle.std.proofs.lemmas.Iterator.Search.{any_from_yields_List}
+use Rattle.rows.proofs.Chains.{any-place}
 use Rattle.unrouted.specs.Rules.{goes_to}
-use Rattle.rows.proofs.Promises.{first_found, first-missed}
+use Rattle.unrouted.proofs.Turns.{row_at}
 use Rattle.unrouted.proofs.waits.Goals as goal
 
-pub returns-in-Some : goal.returns-in-Some
-returns-in-Some c =
-    sym (first_found (goes_to c.args.destination) Keeps blank_unrouted (live unrouted_table c.args.w.now c.args.n) _ ((sym c.first_to.ensures)) ∙ c.in-Some.is).any
-
-pub returns-in-None : goal.returns-in-None
-returns-in-None c =
-    sym (first-missed (goes_to c.args.destination) Keeps (live unrouted_table c.args.w.now c.args.n) ((sym c.first_to.ensures)) ∙ c.in-None.is).any
+pub returns : goal.returns
+returns c =
+    let a = c.args in
+    any_from_yields_List (λ k. goes_to a.destination (row_at a.w.now k)) _ _ _ c.any.ensures.ran (YieldsList-from_range 0 a.n a.n refl (omega arith)) (λ x b q k. search (rules, tests))
+    ∙ any-place c.requires (goes_to a.destination)

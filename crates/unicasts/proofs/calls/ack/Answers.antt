@@ -5,8 +5,8 @@ use Rattle.unicasts.proofs.Tables.{played-as}
 use mathlib.Core.Path.{ap, ◌∙◌}
 use Rattle.unicasts.proofs.calls.ack.Goals as goal
 
-pub load-u-requires : goal.load-u-requires
-load-u-requires c =
+pub load-u-requires-clause-there : goal.load-u-requires-clause-there
+load-u-requires-clause-there c =
     let h = c.requires.held in
     let e = scan-some (keyed c.args.key) c.args.w.now c.args.n _ c.first_keyed.ensures c.in-Some.is in
     first-room h (keyed c.args.key) _ e

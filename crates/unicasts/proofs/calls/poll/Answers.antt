@@ -5,8 +5,8 @@ use Rattle.records.specs.Records.{unicast_entry}
 use mathlib.Core.Path.{ap, ◌∙◌}
 use Rattle.unicasts.proofs.calls.poll.Goals as goal
 
-pub load-u-requires : goal.load-u-requires
-load-u-requires c =
+pub load-u-requires-clause-there : goal.load-u-requires-clause-there
+load-u-requires-clause-there c =
     let h = c.requires in
     let e = scan-some (awaits c.args.eui c.args.nwk c.args.clock) c.args.w.now c.args.n _ c.first_awaited.ensures c.in-Some.is in
     first-room h (awaits c.args.eui c.args.nwk c.args.clock) _ e

@@ -8,8 +8,8 @@ use Rattle.records.specs.Records.{unicast_entry}
 use mathlib.Core.Path.{refl, ap, ◌∙◌}
 use Rattle.unicasts.proofs.calls.report.Goals as goal
 
-pub load-u-requires : goal.load-u-requires
-load-u-requires c =
+pub load-u-requires-clause-there : goal.load-u-requires-clause-there
+load-u-requires-clause-there c =
     let h = c.requires.held in
     let e = find-here c.args.w.now c.args.n c.args.id _ c.find.ensures c.in-Some.is in
     first-room h (has_id unicast_entry c.args.id) _ e
