@@ -165,7 +165,7 @@ module _ {A : Type 0} {t : Table A} {entry : A → Entry} {ws : List ℕ} {n : �
       told-found entry q f (live t ws n) (get_or (live t ws n) i t.blank) g.is ∙ ap (λ (x : A). told (entry x) (f x)) at in
       record { table = rw mv p.table; tells = rw sd p.tells }
 
-  -- there is None
+  -- there is none
   pub turn-missed : {buf : List ℕ} {m : ℕ} → first_at q (live t ws n) ≡ None → Turned t entry q f ws n buf m ws n buf m
   turn-missed {buf} {m} e =
       let g = first-missed q f (live t ws n) e in

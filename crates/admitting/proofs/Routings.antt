@@ -1,4 +1,4 @@
--- What taking a route does, send by send: of the sends to a destination the first goes, then the next, until None is left. Assumes nothing.
+-- What taking a route does, send by send: of the sends to a destination the first goes, then the next, until none is left. Assumes nothing.
 use Rattle.std.specs.Prelude.{Option, None, Some}
 use Prim.Native.Nat.{ℕ, ◌+◌, ◌-◌, ◌≤◌, ◌<◌}
 use native.Mathlib.Omega.{arith}

@@ -53,7 +53,7 @@ module _ (u : Broadcast) where
 -- ---- by what was found
 
 module _ {ws : List ℕ} {n : ℕ} (h : Held broadcast_table ws n) (id : ℕ) where
-  -- there is None
+  -- there is none
   module _ (e : None ≡ find_by broadcast_id id (live broadcast_table ws n)) where
     pub missed-is : lookup broadcast_id id (live broadcast_table ws n) ≡ None
     missed-is = miss-lookup h id (sym e)

@@ -23,7 +23,7 @@ pub record Tops (now : ℕ) (bs : List Broadcast) (id rank : ℕ) : Type 0 where
   pub ranks : rank_of the.priority ≡ rank
   pub first : All (λ (b : Broadcast). ready now b ≡ true → Behind id rank b) bs
 
--- what the answer says: nothing where None is queued and unexpired
+-- what the answer says: nothing where none is queued and unexpired
 abbrev pub Says : ℕ → List Broadcast → Option (ℕ × ℕ) → Type 0
 Says now bs None = All (λ (b : Broadcast). ready now b ≡ false) bs
 Says now bs (Some (id, rank)) = Tops now bs id rank
@@ -32,7 +32,7 @@ Says now bs (Some (id, rank)) = Tops now bs id rank
 abbrev pub BestIsBest : Type 0
 BestIsBest = (now lo : ℕ) (bs : List Broadcast) → Rising broadcast_id lo bs → Says now bs (best_of now bs)
 
--- and there is None only where None is
+-- and there is none only where none is
 abbrev pub NoneIfNone : Type 0
 NoneIfNone = (now : ℕ) (bs : List Broadcast) → All (λ (b : Broadcast). ready now b ≡ false) bs → best_of now bs ≡ None
 
@@ -55,7 +55,7 @@ WakeIsDue = (now : ℕ) (bs : List Broadcast) → any_of (stirring now) bs ≡ d
 abbrev pub QuietBefore : Type 0
 QuietBefore = (now : ℕ) (bs : List Broadcast) → due_by now (wake_of bs) ≡ false → (each (tick_turn now) bs ≡ bs) × (each_told broadcast_entry (tick_turn now) bs ≡ [])
 
--- ---- what the rules keep: a verdict that the Rust has None for is never asked
+-- ---- what the rules keep: a verdict that the Rust has none for is never asked
 
 abbrev pub is_once : Schedule → Bool
 is_once Once = true

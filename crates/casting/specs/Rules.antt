@@ -119,7 +119,7 @@ over_verdict Once = Failure HandoffTimeout
 over_verdict (PassiveAck k n t) = Failure BroadcastQuorumNotReached
 over_verdict (FixedInterval i n t) = Success
 
--- the last radio error. A copy that was spent and not handed off left one, so None is never asked (the Rust: unwrap)
+-- the last radio error. A copy that was spent and not handed off left one, so none is never asked (the Rust: unwrap)
 abbrev pub last_verdict : Option ℕ → Verdict
 last_verdict None = Code 0
 last_verdict (Some c) = Code c

@@ -72,7 +72,7 @@ pub record Lawful (m : Model) (o : Outcome) (new : List Entry) : Type 0 where
   pub ids : map (λ (e : Entry). e.id) new ≡ ids_from m.next (length new)
   pub next : o.model.next ≡ m.next + length new
 
--- an effect that issues None
+-- an effect that issues none
 record Even (m : Model) (e : Effect) : Type 0 where
   pub sum : (p : Entry → Bool) → in_all p m ≡ in_all p e.model + count p (settled_of e.actions)
   pub said : id_said e.answer ≡ []

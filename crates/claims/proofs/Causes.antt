@@ -488,7 +488,7 @@ draws i w m c q = go c q.wants q.issued
     go (HasUnrouted d) s e = nothing-wanted s
     go (HasAwaiting a) s e = nothing-wanted s
 
--- what is issued from Some tables on is not below their next id
+-- what is issued from some tables on is not below their next id
 issued-from : (i : ℕ) (w : Want) (m : Model) (cs : List Call) → Ever m cs (Enqueued i w) → m.next ≤ i
 issued-from i w m [] h = absurd h
 issued-from i w m (c ∷ cs) h =

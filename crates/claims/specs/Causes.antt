@@ -20,7 +20,7 @@ use Rattle.model.specs.Steps.Reply.{Says}
 abbrev pub Fact : Type 1
 Fact = Model → Call → Type 0
 
--- it holds of Some call, of those made one after the other from these tables on
+-- it holds of some call, of those made one after the other from these tables on
 abbrev pub Ever : Model → List Call → Fact → Type 0
 Ever m [] P = ⊥
 Ever m (c ∷ cs) P = P m c ⊎ Ever (step_of m c).model cs P

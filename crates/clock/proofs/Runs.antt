@@ -1,6 +1,8 @@
 -- A run of readings keeps true time: specs/Claims. Assumes nothing.
+use Rattle.std.specs.Prelude.{Result}
 use Rattle.std.proofs.Common.{◌≡◌, ℕ, ◌+◌, ◌-◌, ◌≤◌, List, [], ◌∷◌, ap, ◌∙◌, arith}
-use Rattle.clock.specs.Types.{Clock, Advanced}
+use Rattle.records.specs.declared.Refusal.{Refusal}
+use Rattle.clock.specs.Types.{Clock}
 use Rattle.clock.specs.Lent.{clock_at, clock_of}
 use Rattle.clock.specs.Claims.{shown, ran, Close, final, KeepsTime, ShowsTrueTime}
 use Rattle.clock.proofs.Steps.{reading-is-exact}
@@ -16,7 +18,7 @@ keeps-time t s (u ∷ us) c fits =
     let l = later-on u us c.1.1 in
     let e : s + (u - t) + (final u us - u) ≡ s + (final u us - t) = omega (arith, c.0, l) in
     let step = reading-is-exact t u s c.0 c.1.0 (omega (arith, c.0, l, fits)) in
-    ap (λ (a : Advanced). ran (clock_of a) us) step
+    ap (λ (a : Result Clock (Refusal × Clock)). ran (clock_of a) us) step
     ∙ (keeps-time u (s + (u - t)) us c.1.1 (omega (arith, e, fits)) ∙ ap (clock_at (shown (final u us))) e)
 
 pub shows-true-time : ShowsTrueTime

@@ -1,10 +1,10 @@
 -- What the clock is claimed to do, in 01's words; proofs/Steps and proofs/Runs prove it. A true time is one that never wraps; the
 -- radio shows it modulo 2^32.
-use Rattle.std.specs.Prelude.{◌≡◌, ℕ, ◌+◌, ◌-◌, ◌%◌, ◌<◌, ◌≤◌, ◌↔◌, List, [], ◌∷◌, ◌≢◌}
+use Rattle.std.specs.Prelude.{◌≡◌, ℕ, ◌+◌, ◌-◌, ◌%◌, ◌<◌, ◌≤◌, ◌↔◌, List, [], ◌∷◌, ◌≢◌, Ok, Err}
 use Rattle.records.specs.Limits.{last_time}
 use Rattle.records.specs.declared.Refusal.{Refusal}
 use Rattle.records.specs.declared.Refusal.TheVariants.{TimeTooLate}
-use Rattle.clock.specs.Types.{Clock, Running, Unmoved, Moved}
+use Rattle.clock.specs.Types.{Clock}
 use Rattle.clock.specs.Clock.{round, since, fresh_of, advance_of}
 use Rattle.clock.specs.Lent.{clock_at, clock_of}
 
@@ -26,7 +26,7 @@ SinceIsElapsed = (t u : ℕ) → t ≤ u → since (shown t) (shown u) ≡ (u - 
 abbrev pub ReadingIsExact : Type 0
 ReadingIsExact =
     (t u s : ℕ) → t ≤ u → u < t + round → s + (u - t) ≤ last_time
-    → advance_of (clock_at (shown t) s) (shown u) ≡ Moved (clock_at (shown u) (s + (u - t)))
+    → advance_of (clock_at (shown t) s) (shown u) ≡ Ok (clock_at (shown u) (s + (u - t)))
 
 -- ONCE ROUND LOSES NOTHING: a reading on the way and then the first one again have moved the time by 2^32
 abbrev pub OnceRound : Type 0
@@ -38,15 +38,15 @@ OnceRound =
 
 -- A READING IS REFUSED exactly when it takes the time past 2^62
 abbrev pub RefusedExactly : Type 0
-RefusedExactly = (c : Clock) (r : ℕ) → (advance_of c r ≡ Unmoved TimeTooLate c) ↔ (last_time < c.time + since c.last r)
+RefusedExactly = (c : Clock) (r : ℕ) → (advance_of c r ≡ Err (TimeTooLate, c)) ↔ (last_time < c.time + since c.last r)
 
 -- A REFUSED READING CHANGES NOTHING, neither the time nor the last reading, and is refusal 1
 abbrev pub RefusedChangesNothing : Type 0
-RefusedChangesNothing = (c d : Clock) (r : ℕ) (x : Refusal) → advance_of c r ≡ Unmoved x d → (x ≡ TimeTooLate) × (d ≡ c)
+RefusedChangesNothing = (c d : Clock) (r : ℕ) (x : Refusal) → advance_of c r ≡ Err (x, d) → (x ≡ TimeTooLate) × (d ≡ c)
 
 -- THE TIME STAYS SOUND, and never goes back
 abbrev pub FreshIsSound : Type 0
-FreshIsSound = (r t : ℕ) (c : Clock) → fresh_of r t ≡ Running c → Sound c
+FreshIsSound = (r t : ℕ) (c : Clock) → fresh_of r t ≡ Ok c → Sound c
 
 abbrev pub AdvanceKeepsSound : Type 0
 AdvanceKeepsSound = (c : Clock) (r : ℕ) → Sound c → Sound (clock_of (advance_of c r))

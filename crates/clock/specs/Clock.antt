@@ -1,9 +1,10 @@
 -- What the clock does with a reading, over the natural numbers.
-use Rattle.std.specs.Prelude.{ℕ, ◌+◌, ◌-◌, ◌%◌, nat_le}
+use Rattle.std.specs.Prelude.{ℕ, ◌+◌, ◌-◌, ◌%◌, nat_le, Result, Ok, Err}
 use Rattle.records.specs.Limits.{last_time}
 use Rattle.records.specs.Pick.{pick}
 use Rattle.records.specs.declared.Refusal.TheVariants.{TimeTooLate}
-use Rattle.clock.specs.Types.{Clock, Started, Refused, Running, Advanced, Unmoved, Moved}
+use Rattle.records.specs.declared.Refusal.{Refusal}
+use Rattle.clock.specs.Types.{Clock}
 
 -- how many values the counter has, 2^32
 abbrev pub round : ℕ
@@ -18,9 +19,9 @@ abbrev pub moved : Clock → ℕ → Clock
 moved c reading = record { last = reading; time = c.time + since c.last reading }
 
 -- a time up to 2^62 is taken, and a later one refused
-abbrev pub fresh_of : ℕ → ℕ → Started
-fresh_of reading time = pick (nat_le time last_time) (Running (record { last = reading; time = time })) (Refused TimeTooLate)
+abbrev pub fresh_of : ℕ → ℕ → Result Clock Refusal
+fresh_of reading time = pick (nat_le time last_time) (Ok (record { last = reading; time = time })) (Err TimeTooLate)
 
 -- a reading that takes the time past 2^62 is refused, and the clock stays as it was
-abbrev pub advance_of : Clock → ℕ → Advanced
-advance_of c reading = pick (nat_le (moved c reading).time last_time) (Moved (moved c reading)) (Unmoved TimeTooLate c)
+abbrev pub advance_of : Clock → ℕ → Result Clock (Refusal × Clock)
+advance_of c reading = pick (nat_le (moved c reading).time last_time) (Ok (moved c reading)) (Err (TimeTooLate, c))

@@ -16,46 +16,32 @@ pub struct Clock {
     pub time: u64,
 }
 
-// What starting a clock answers.
-#[derive(Clone, Copy)]
-pub enum Started {
-    Refused(Refusal),
-    Running(Clock),
-}
-
-// What a reading does. A clock that refuses it comes back as it was.
-#[derive(Clone, Copy)]
-pub enum Advanced {
-    Unmoved(Refusal, Clock),
-    Moved(Clock),
-}
-
 // 2^62: the last time that the tables take.
 const LAST_TIME: u64 = 4611686018427387904;
 
 // A clock that stands at a time, with the reading that the counter shows then.
-pub fn fresh(reading: u32, time: u64) -> Started
+pub fn fresh(reading: u32, time: u64) -> Result<Clock, Refusal>
     ensures { result ≡ fresh_of reading time }
 {
     if LAST_TIME < time {
-        return Started::Refused(Refusal::TimeTooLate);
+        return Err(Refusal::TimeTooLate);
     }
-    Started::Running(Clock {
+    Ok(Clock {
         last: reading,
         time,
     })
 }
 
-// One reading more. What is left up to 2^62 is compared before the sum is made, so that no sum can wrap and any clock is taken.
-pub fn advance(c: Clock, reading: u32) -> Advanced
+// One reading more; a clock that refuses it comes back as it was. What is left up to 2^62 is compared before the sum is made, so that no sum can wrap and any clock is taken.
+pub fn advance(c: Clock, reading: u32) -> Result<Clock, (Refusal, Clock)>
     ensures { result ≡ advance_of c reading }
 {
     let step = std::num::wrapping_sub_u32(reading, c.last) as u64;
     if LAST_TIME - step < c.time {
-        return Advanced::Unmoved(Refusal::TimeTooLate, c);
+        return Err((Refusal::TimeTooLate, c));
     }
     let time = c.time + step;
-    Advanced::Moved(Clock {
+    Ok(Clock {
         last: reading,
         time,
     })

@@ -1,4 +1,4 @@
--- A dequeue takes the best of both tables, and nothing exactly when None is there: specs/Claims. Assumes that ids rise.
+-- A dequeue takes the best of both tables, and nothing exactly when none is there: specs/Claims. Assumes that ids rise.
 use Rattle.std.specs.Prelude.{Option, None, Some}
 use Prim.Native.Nat.{ℕ, suc, ◌≤◌, ◌<◌}
 use native.Mathlib.Omega.{arith}
@@ -69,7 +69,7 @@ record Found (now : ℕ) (us : List Unicast) (i : ℕ) (p : Priority) : Type 0 w
   ranks : the.priority ≡ p
 
 found : (now lo : ℕ) (us : List Unicast) (i : ℕ) (p : Priority) → Rising unicast_id lo us
-    → unic.Some (λ (u : Unicast). (uni.ready now u ≡ true) × ((u.id ≡ i) × (u.priority ≡ p))) us → Found now us i p
+    → unic.Any (λ (u : Unicast). (uni.ready now u ≡ true) × ((u.id ≡ i) × (u.priority ≡ p))) us → Found now us i p
 found now lo [] i p r s = absurd s
 found now lo (u ∷ us) i p r s =
     ⊎_elim

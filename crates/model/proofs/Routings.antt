@@ -60,7 +60,7 @@ each2-map f [] ys a = tt
 each2-map f (x ∷ xs) [] a = a
 each2-map f (x ∷ xs) (y ∷ ys) a = (f x y a.0, each2-map f xs ys a.1)
 
--- an id below theirs is None of theirs
+-- an id below theirs is none of theirs
 rising-other : (k lo : ℕ) (ts : List Unrouted) (rs : List Resolved) → k < lo → Rising unrouted_id lo ts → length ts ≤ length rs → Each2 (λ u r. reached r ≡ true → u.id ≡ k → ⊥) ts rs
 rising-other k lo [] rs h r l = tt
 rising-other k lo (u ∷ ts) [] h r l = absurd (omega arith)

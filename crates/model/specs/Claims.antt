@@ -118,7 +118,7 @@ bars_of m (PollAddresses es ns) = (not (map_fits es ns), MapMalformed) ∷ []
 bars_of m (HasUnrouted d) = []
 bars_of m (HasAwaiting a) = []
 
--- the number's test holds, and None before it does
+-- the number's test holds, and none before it does
 abbrev pub Bars : List Bar → Refusal → Type 0
 Bars [] x = ⊥
 Bars (b ∷ bs) x = ((b.0 ≡ true) × (b.1 ≡ x)) ⊎ ((b.0 ≡ false) × Bars bs x)
@@ -137,7 +137,7 @@ DeniedAltersNothing = (m : Model) (c : Call) (x : Refusal) → (step_of m c).rep
 abbrev pub FewActions : Type 0
 FewActions = (m : Model) (c : Call) → SoundModel m → length (step_of m c).actions ≤ 112
 
--- and Some call makes that many
+-- and some call makes that many
 pub record Busiest : Type 0 where
   pub model : Model
   pub sound : SoundModel model
@@ -186,7 +186,7 @@ DequeueIsBest =
     ⊎ (GoesOut m.unicasts unicast_id (λ u. rank_of u.priority) (uni.ready now) (unicast_goes m) now m (dequeue_of m now)
     ⊎ GoesOut m.broadcasts broadcast_id (λ b. rank_of b.priority) (bro.ready now) (broadcast_goes m) now m (dequeue_of m now))
 
--- and nothing exactly when None is there
+-- and nothing exactly when none is there
 abbrev pub NothingExactly : Type 0
 NothingExactly = (m : Model) (now : ℕ) → SoundModel m → now ≤ last_time → ((dequeue_of m now).answer ≡ NothingQueued) ↔ NoneWaits now m
 
@@ -223,7 +223,7 @@ broadcast_wakes m = flat (λ (b : Broadcast). broadcast_times b.deadline b.sched
 abbrev pub wakes_of : Model → List ℕ
 wakes_of m = unicast_wakes m ++ (unrouted_wakes m ++ broadcast_wakes m)
 
--- one of the times, and None is sooner; or nothing, where there are None
+-- one of the times, and none is sooner; or nothing, where there are none
 abbrev pub IsLeast : List ℕ → Option ℕ → Type 0
 IsLeast ts None = ts ≡ []
 IsLeast ts (Some t) = Memᴰ t ts × All (λ (y : ℕ). t ≤ y) ts

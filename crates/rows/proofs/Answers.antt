@@ -94,7 +94,7 @@ module _ {A : Type 0} {t : Table A} (l : Lawful t) {ws : List ℕ} {n : ℕ} (h 
         let m : length (insert_by t.key u (live t ws n)) ≡ n = length-insert-hit t.key 0 u (live t ws n) i h.rising e ∙ held-length h in
         record { answer = rw (m, le-leb n t.room h.within); table = rw q (holds-put l h s p) }
 
-    -- there is None, and no place is free
+    -- there is none, and no place is free
     pub entered-none : find_by t.key (t.key u) (live t ws n) ≡ None → t.room ≤ n → Entered t ws n u ws None
     entered-none e b =
         let m : length (insert_by t.key u (live t ws n)) ≡ suc n =
@@ -102,7 +102,7 @@ module _ {A : Type 0} {t : Table A} (l : Lawful t) {ws : List ℕ} {n : ℕ} (h 
         let c : t.room < suc n = omega arith in
         record { answer = rw (m, lt-leb (suc n) t.room c); table = refl }
 
-    -- there is None, and a place is free
+    -- there is none, and a place is free
     pub entered-new : {ws₁ ws' : List ℕ} (i : ℕ) → find_by t.key (t.key u) (live t ws n) ≡ None → i ≡ place_of t.key (t.key u) (live t ws n)
         → n < t.room → ws₁ ≡ opened t.layout.width n i ws → Put t ws₁ i u ws' → Entered t ws n u ws' (Some (n + 1))
     entered-new i e q b o p =

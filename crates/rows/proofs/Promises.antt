@@ -648,7 +648,7 @@ module _ {A : Type 0} {t : Table A} {ws : List ℕ} {n : ℕ} (h : Held t ws n) 
   room : n ≤ length (rows_of t ws)
   room = omega (arith, length-rows_of t ws, h.within)
 
-  -- the scan has come to place i: the record there has the test or not, or there is None
+  -- the scan has come to place i: the record there has the test or not, or there is none
   module _ (q : A → Bool) (i : ℕ) {p : Option ℕ} (inv : place_from q i (drop i (live t ws n)) ≡ p) where
     pub scan-on : i < n → q (get_or (rows_of t ws) i t.blank) ≡ false → place_from q (i + 1) (drop (i + 1) (live t ws n)) ≡ p
     scan-on l e =

@@ -60,7 +60,7 @@ module _ {ws : List ℕ} {n : ℕ} (h : Held unicast_table ws n) (q : Unicast �
   pub any_none : first_at q (sends ws n) ≡ None → false ≡ any_of q (sends ws n)
   any_none e = sym (first-missed q (λ (u : Unicast). Keeps u) (sends ws n) e).any
 
-  -- the first was stored changed by g; or there is None, and every word stays
+  -- the first was stored changed by g; or there is none, and every word stays
   pub first-stored : (g : Unicast → Unicast) (i : ℕ) {ws' : List ℕ} {v : Unicast} → first_at q (sends ws n) ≡ Some i → v ≡ g (row_at ws i)
       → Holds unicast_table ws' n (set (sends ws n) i v) → Holds unicast_table ws' n (at_first q (λ (u : Unicast). Keeps (g u)) (sends ws n))
   first-stored g i {ws'} {v} e p s =

@@ -48,7 +48,7 @@ above lo (u ∷ us) r =
 abbrev Under : ℕ → ℕ → Priority → Unicast → Type 0
 Under now i p v = ready now v ≡ true → (rank_of v.priority < rank_of p) ⊎ ((rank_of v.priority ≡ rank_of p) × (i ≤ v.id))
 
--- ---- the best queued is of highest priority and then of lowest id, and nothing exactly when None is
+-- ---- the best queued is of highest priority and then of lowest id, and nothing exactly when none is
 
 pub best-is-best : (now lo : ℕ) (us : List Unicast) → Rising unicast_id lo us → IsBest now us (best_of now us)
 best-is-best now lo [] r = tt
@@ -178,7 +178,7 @@ module _ (p : Entry → Bool) (us : List Unicast) where
       ≡ entries unicast_entry p (at_first (has_id unicast_entry i) cancel_turn us) + count p (settled_of (at_first_told unicast_entry (has_id unicast_entry i) cancel_turn us))
   cancel-count i = first_count unicast_entry p (has_id unicast_entry i) cancel_turn cancel-same us
 
-  -- a poll and a dequeue settle None
+  -- a poll and a dequeue settle none
   quiet-count : (q : Unicast → Bool) (g : Unicast → Unicast) → ((u : Unicast) → unicast_entry (g u) ≡ unicast_entry u)
       → entries unicast_entry p us ≡ entries unicast_entry p (at_first q (λ (u : Unicast). Keeps (g u)) us)
   quiet-count q g s =

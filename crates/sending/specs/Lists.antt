@@ -1,5 +1,5 @@
 -- 01's rules of unicasts, on the list of them.
-use Rattle.std.specs.Prelude.{ℕ, List, eqb, Option, None, Some}
+use Rattle.std.specs.Prelude.{ℕ, List, eqb, Option, None, Some, Bool}
 use Rattle.records.specs.Pick.{pick}
 use Rattle.records.specs.Records.{unicast_entry}
 use Rattle.rows.specs.Lists.{fold}

@@ -60,10 +60,10 @@ call_for s (OnHasUnrouted d) rs = Some (HasUnrouted d)
 call_for s (OnHasAwaiting a) rs = Some (HasAwaiting a)
 call_for s Malformed rs = None
 
--- a kind that the run does not see to itself: None of settings, abandon, next wake, pair and lists
+-- a kind that the run does not see to itself: none of settings, abandon, next wake, pair and lists
 abbrev pub Plain : ℕ → Type 0
 Plain k = ((((k ≡ 1 → ⊥) × (k ≡ 17 → ⊥)) × (k ≡ 18 → ⊥)) × (k ≡ 19 → ⊥)) × (k ≡ 20 → ⊥)
 
--- and None of 2 to 9
+-- and none of 2 to 9
 abbrev pub Later : ℕ → Type 0
 Later k = (((((((k ≡ 2 → ⊥) × (k ≡ 3 → ⊥)) × (k ≡ 4 → ⊥)) × (k ≡ 5 → ⊥)) × (k ≡ 6 → ⊥)) × (k ≡ 7 → ⊥)) × (k ≡ 8 → ⊥)) × (k ≡ 9 → ⊥)
