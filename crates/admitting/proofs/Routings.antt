@@ -3,52 +3,43 @@ use Rattle.std.specs.Prelude.{Option, None, Some}
 use Prim.Native.Nat.{ℕ, ◌+◌, ◌-◌, ◌≤◌, ◌<◌}
 use native.Mathlib.Omega.{arith}
 use mathlib.Core.Path.{◌≡◌, refl, sym, ap, ap₂, ◌∙◌}
-use mathlib.Core.Bool.{Bool, true, false, not}
+use mathlib.Core.Bool.{Bool, true, false, not, cond}
 use mathlib.Core.List.{List, [], ◌∷◌, ◌++◌, append-nil, append_assoc}
 use lib.ListN.{length, take, drop, get_or, drop_of_length-le}
-use borrow.Author.Tests.{eq-eqb, ne_eqb, le-leb, lt-ltb, le-ltb}
+use Rattle.std.specs.List.{count_by}
+use Rattle.std.proofs.lemmas.List.Recursion.{is_count_by}
+use borrow.Author.Tests.{eq-eqb, le-leb, lt-ltb, le-ltb}
 use Rattle.records.specs.Pick.{pick, bit}
-use Rattle.records.specs.Records.{unicast_id, unrouted_id, unrouted_entry, destination_address}
-use Rattle.rows.specs.Lists.{insert_by, remove_by}
+use Rattle.records.specs.Records.{unrouted_entry, destination_address}
+use Rattle.rows.specs.Lists.{remove_by}
 use Rattle.rows.specs.Tables.{live, words_for, Held, Holds}
 use Rattle.rows.specs.Moves.{first_of, count}
-use Rattle.rows.proofs.Promises.{live-cons, live-done, held-length, held-holds, holds-count}
+use Rattle.rows.proofs.Promises.{live-cons, held-length, held-holds, holds-count}
 use Rattle.tables.specs.Layouts.{unicast_table, unrouted_table, destination_table}
 use Rattle.actions.specs.Told.{Told}
 use Rattle.actions.specs.Calls.{Swept}
-use Rattle.actions.proofs.Lines.{told_none, told-append}
-use Rattle.unrouted.specs.Rules.{spent_by, sweep_turn, goes_to, left_to, drop_first, took_of}
-use Rattle.unrouted.specs.Calls.{Taken, Retried}
+use Rattle.actions.proofs.Lines.{told-append}
+use Rattle.unrouted.specs.Rules.{sweep_turn, goes_to, left_to, drop_first, took_of}
+use Rattle.unrouted.specs.Calls.{Taken}
 use Rattle.unrouted.proofs.Turns.{bit_le}
 use Rattle.model.specs.Model.{denied, lent_model, SoundTables, Does}
-use Rattle.model.specs.Calls.{late, retry_by, retry_of, only, reached, routed, entering, failing, routing, route_of}
-use Rattle.model.specs.Sound.{Kept}
+use Rattle.model.specs.Calls.{late, only, reached, entering, failing, routing, route_of}
 use Rattle.model.proofs.Fews.{sweep-one}
-use Rattle.model.proofs.Kepts.{kept-only}
 use Rattle.model.proofs.Routings.{left-count}
 use Rattle.model.proofs.Routes.{entering-length}
-use Rattle.doing.specs.Types.{Address, Entry, Code, Settled, TimeTooLate, ResultsMismatch, NoPlace, Accepted, Lapsed, Settings, Unicast, Unrouted, Resolved, Reached, Unreached, Action, Retry, NotHeld, Declined, Granted, Counts, Did}
+use Rattle.doing.specs.Types.{NoPlace, Accepted, Lapsed, Settings, Unicast, Unrouted, Resolved, Reached, Unreached, Action, Counts}
 use Rattle.admitting.specs.declared.routes.Entered.{Entered}
 use Rattle.admitting.specs.declared.routes.Gone.{Gone}
-use Rattle.doing.specs.Parts.{quietly}
 use Rattle.admitting.specs.Routes.{RoutedOne, RoutedAll, Routable}
-use Rattle.doing.proofs.Doings.{does-as, did-as, does-unrouted}
 
--- ---- counting down a list
+-- ---- counting
 
-module _ {A : Type 0} (p : A → Bool) (xs : List A) (n : ℕ) (h : n ≤ length xs) where
-  pub count-start : 0 ≡ count p (drop n (take n xs))
-  count-start = ap (count p) (sym (live-done xs n n (omega arith) h))
-
-  pub count_turn : (i : ℕ) (b : ℕ) (d : A) → 0 < i → i ≤ n → b ≡ count p (drop i (take n xs))
-      → bit (p (get_or xs (i - 1) d)) + b ≡ count p (drop (i - 1) (take n xs))
-  count_turn i b d o l e =
-      let k : i - 1 + 1 ≡ i = omega arith in
-      ap (λ (a : ℕ). bit (p (get_or xs (i - 1) d)) + a) (e ∙ ap (λ (j : ℕ). count p (drop j (take n xs))) (sym k))
-      ∙ sym (ap (count p) (live-cons xs n (i - 1) d (omega arith) h))
-
-  pub count-end : (i : ℕ) (b : ℕ) → i ≤ 0 → b ≡ count p (drop i (take n xs)) → b ≡ count p (take n xs)
-  count-end i b o e = let k : i ≡ 0 = omega arith in e ∙ ap (λ (j : ℕ). count p (drop j (take n xs))) k
+pub count-by : {A : Type 0} (p : A → Bool) (xs : List A) → count p xs ≡ count_by p xs
+count-by p xs = is_count_by (count p) p refl (λ x ys. one (p x) (count p ys)) xs
+  where
+    one : (b : Bool) (n : ℕ) → bit b + n ≡ cond b (1 + n) n
+    one true n = refl
+    one false n = omega arith
 
 pub bit-low : {a : ℕ} (b : Bool) → a ≡ bit b → a ≤ 1
 bit-low b e = omega (arith, e, bit_le b)
@@ -121,15 +112,6 @@ failing-few : (u : Unrouted) (x : Resolved) → length (failing (u ∷ []) (x �
 failing-few u (Reached hop a) = omega arith
 failing-few u (Unreached c) = omega arith
 
-module _ {s : Settings} {now : ℕ} {u : Unrouted} {x : Resolved} {ws buf : List ℕ} {n m : ℕ} where
-  pub one-reached : {ws' : List ℕ} {k : ℕ} (hop : ℕ) (a : Address) {y : Unicast} → x ≡ Reached hop a → y ≡ routed s now u hop a
-      → Holds unicast_table ws' k (insert_by unicast_id y (live unicast_table ws n)) → RoutedOne s now u x ws n buf m ws' buf (record { sends = k; told = m })
-  one-reached hop a e f h = rw e (record { table = rw (← f) h; tells = told_none m buf })
-
-  pub one-unreached : {buf' : List ℕ} {k : ℕ} (code : ℕ) {e : Entry} → x ≡ Unreached code → e ≡ unrouted_entry u → Held unicast_table ws n
-      → Told m (Settled e (Code code) None ∷ []) buf buf' k → RoutedOne s now u x ws n buf m ws buf' (record { sends = n; told = k })
-  one-unreached code e f h t = rw e (record { table = held-holds h; tells = rw (← f) t })
-
 module _ (s : Settings) (d now : ℕ) (results : List Resolved) (many : ℕ) (ws₀ : List ℕ) (n₀ : ℕ) (vs₀ : List ℕ) (k₀ : ℕ) (buf₀ : List ℕ) (m₀ : ℕ) where
   -- i results are used: what is still to do gives the whole, there is a place for each success that is left, and place to tell the rest
   pub record Routing (ws : List ℕ) (n : ℕ) (vs : List ℕ) (k : ℕ) (buf : List ℕ) (m : ℕ) (i : ℕ) : Type 0 where
@@ -147,22 +129,6 @@ module _ (s : Settings) (d now : ℕ) (results : List Resolved) (many : ℕ) (ws
     pub space : m + (many - i) ≤ 112
 
 module _ {s : Settings} {d now : ℕ} {results : List Resolved} {many : ℕ} {ws₀ : List ℕ} {n₀ : ℕ} {vs₀ : List ℕ} {k₀ : ℕ} {buf₀ : List ℕ} {m₀ : ℕ} where
-  pub route-start : Held unicast_table ws₀ n₀ → Held unrouted_table vs₀ k₀ → Routable d (live unrouted_table vs₀ k₀) n₀ results many m₀
-      → Routing s d now results many ws₀ n₀ vs₀ k₀ buf₀ m₀ ws₀ n₀ vs₀ k₀ buf₀ m₀ 0
-  route-start h g p =
-      record {
-        unicasts = h;
-        unrouted = g;
-        left = omega (arith, p.many);
-        enters = refl;
-        stays = refl;
-        done = [];
-        tells = told_none m₀ buf₀;
-        rest = refl;
-        free = p.free;
-        space = omega (arith, p.space);
-      }
-
   module _ {ws : List ℕ} {n : ℕ} {vs : List ℕ} {k : ℕ} {buf : List ℕ} {m i : ℕ} (r : Routing s d now results many ws₀ n₀ vs₀ k₀ buf₀ m₀ ws n vs k buf m i)
       (there : many ≤ length results) where
     -- the next result
@@ -179,11 +145,6 @@ module _ {s : Settings} {d now : ℕ} {results : List Resolved} {many : ℕ} {ws
     route-some l t e =
         let z : only (goes_to d) (live unrouted_table vs k) ≡ [] = none_only (goes_to d) (live unrouted_table vs k) (nothing-none _ (sym e ∙ t.answer)) in
         omega (arith, r.left, ap length z)
-
-    pub route-more : i < many → 1 ≤ k
-    route-more l =
-        let kept : Kept unrouted_id k (live unrouted_table vs k) = record { rising = r.unrouted.rising; within = omega (arith, held-length r.unrouted) } in
-        omega (arith, r.left, (kept-only unrouted_id (goes_to d) kept).within)
 
     pub route-turn : {ws' vs' buf' : List ℕ} {y : Option Unrouted} {e : Entered} (u : Unrouted) (x : Resolved) → i < many → Taken d vs k vs' y → y ≡ Some u
         → RoutedOne s now u (get_or results i x) ws n buf m ws' buf' e
@@ -251,19 +212,6 @@ routable {vs} {vs'} {buf} {buf'} {k} {k'} {n} now d h t e l f =
       space = omega (arith, h.within, t.tells.next, sweep-one (Lapsed now) (live unrouted_table vs k), held-length h);
     }
 
--- ---- a restart, by its answer
-
-module _ {c : Counts} {ws vs ds bs : List ℕ} (s : SoundTables c ws vs ds bs) (d : ℕ) where
-  by_answer : {ds' buf : List ℕ} {r : Did} (a : Retry) → Holds destination_table ds' c.held (spent_by a d (live destination_table ds c.held))
-      → r ≡ quietly c (retry_by (lent_model c ws vs ds bs) d a).answer → Does (retry_by (lent_model c ws vs ds bs) d a) buf ws vs ds' bs buf r
-  by_answer {ds'} {buf} NotHeld h e = did-as e (does-unrouted s (held-holds s.unrouted) h (told_none 0 buf))
-  by_answer {ds'} {buf} Declined h e = did-as e (does-unrouted s (held-holds s.unrouted) h (told_none 0 buf))
-  by_answer {ds'} {buf} Granted h e = did-as e (does-unrouted s (held-holds s.unrouted) h (told_none 0 buf))
-
-  pub does-retry : {ds' buf : List ℕ} {y : Retry} {r : Did} (a : Retry) → Retried d vs c.unrouted ds c.held ds' y → y ≡ a
-      → r ≡ quietly c (retry_by (lent_model c ws vs ds bs) d a).answer → Does (retry_of (lent_model c ws vs ds bs) d) buf ws vs ds' bs buf r
-  does-retry a p q e = does-as (ap (retry_by (lent_model c ws vs ds bs) d) (sym p.answer ∙ q)) (by_answer a (rw q at p.table) e)
-
 -- ---- a route
 
 module _ {c : Counts} {ws vs ds bs : List ℕ} (s : SoundTables c ws vs ds bs) where
@@ -288,19 +236,11 @@ module _ {c : Counts} {ws vs ds bs : List ℕ} (s : SoundTables c ws vs ds bs) w
         tells = told-append t.tells (rw t.table.live-is at a.tells);
       }
 
-  module _ (o : Settings) (d now n : ℕ) (rs : List Resolved) where
-    pub route-late : late now ≡ true → route_of (lent_model c ws vs ds bs) o d now n rs ≡ denied (lent_model c ws vs ds bs) TimeTooLate
-    route-late e = rw e
+  module _ (o : Settings) (d now n : ℕ) (rs : List Resolved) (e : late now ≡ false)
+      (f : n ≡ count (left_to now d) (live unrouted_table vs c.unrouted)) (l : n ≤ length rs) where
+    pub route-full : 32 - c.unicasts < count reached (take n rs) → route_of (lent_model c ws vs ds bs) o d now n rs ≡ denied (lent_model c ws vs ds bs) NoPlace
+    route-full g = rw (e, eq-eqb n _ f, le-leb n (length rs) l, held-length s.unicasts, lt-ltb (32 - c.unicasts) (count reached (take n rs)) g)
 
-    module _ (e : late now ≡ false) where
-      pub route-mismatch : (n ≡ count (left_to now d) (live unrouted_table vs c.unrouted) → ⊥)
-          → route_of (lent_model c ws vs ds bs) o d now n rs ≡ denied (lent_model c ws vs ds bs) ResultsMismatch
-      route-mismatch f = rw (e, ne_eqb n _ f)
-
-      module _ (f : n ≡ count (left_to now d) (live unrouted_table vs c.unrouted)) (l : n ≤ length rs) where
-        pub route-full : 32 - c.unicasts < count reached (take n rs) → route_of (lent_model c ws vs ds bs) o d now n rs ≡ denied (lent_model c ws vs ds bs) NoPlace
-        route-full g = rw (e, eq-eqb n _ f, le-leb n (length rs) l, held-length s.unicasts, lt-ltb (32 - c.unicasts) (count reached (take n rs)) g)
-
-        pub route-goes : count reached (take n rs) ≤ 32 - c.unicasts
-            → route_of (lent_model c ws vs ds bs) o d now n rs ≡ routing (lent_model c ws vs ds bs) o d now (take n rs)
-        route-goes g = rw (e, eq-eqb n _ f, le-leb n (length rs) l, held-length s.unicasts, le-ltb (32 - c.unicasts) (count reached (take n rs)) g)
+    pub route-goes : count reached (take n rs) ≤ 32 - c.unicasts
+        → route_of (lent_model c ws vs ds bs) o d now n rs ≡ routing (lent_model c ws vs ds bs) o d now (take n rs)
+    route-goes g = rw (e, eq-eqb n _ f, le-leb n (length rs) l, held-length s.unicasts, le-ltb (32 - c.unicasts) (count reached (take n rs)) g)

@@ -11,17 +11,26 @@ ghost use Rattle.doing.specs.Parts.{unicast_as, unrouted_as, broadcast_as, drawn
 
 use model::{Answer, Counts, Did, NewBroadcast, NewUnicast, NewUnrouted};
 use records::{Broadcast, Refusal, Schedule, Settings, Unicast, Unrouted};
+use repeating::turns;
+use turning::rules;
 
 // The send as it is admitted.
 fn unicast_as(id: u32, u: NewUnicast, copy: Option<u32>, s: Settings, clock: u64) -> Unicast
     requires { clock ≤ last_time }
     ensures { result ≡ unicast_as id u copy s clock }
 {
-    let p = u.priority;
-    let f = u.confirm;
-    let a = u.poll_address;
-    turning::rules::admitted(
-        id, u.frame, u.waiter, p, f, u.next_hop, a, copy, s, clock, None,
+    rules::admitted(
+        id,
+        u.frame,
+        u.waiter,
+        u.priority,
+        u.confirm,
+        u.next_hop,
+        u.poll_address,
+        copy,
+        s,
+        clock,
+        None,
     )
 }
 
@@ -29,14 +38,12 @@ fn unrouted_as(id: u32, u: NewUnrouted, s: Settings, clock: u64) -> Unrouted
     requires { clock ≤ last_time }
     ensures { result ≡ unrouted_as id u s clock }
 {
-    let p = u.priority;
-    let f = u.confirm;
     unrouted::admitted(
         id,
         u.frame,
         u.waiter,
-        p,
-        f,
+        u.priority,
+        u.confirm,
         u.destination,
         clock,
         s.handoff_timeout,
@@ -47,9 +54,15 @@ fn broadcast_as(id: u32, u: NewBroadcast, s: Settings, clock: u64) -> Broadcast
     requires { clock ≤ last_time }
     ensures { result ≡ broadcast_as id u s clock }
 {
-    let p = u.priority;
-    let x = u.schedule;
-    repeating::turns::admitted(id, u.frame, u.waiter, p, x, clock, s.handoff_timeout)
+    turns::admitted(
+        id,
+        u.frame,
+        u.waiter,
+        u.priority,
+        u.schedule,
+        clock,
+        s.handoff_timeout,
+    )
 }
 
 // The send enters under its id, where a place is free.
@@ -75,17 +88,14 @@ fn enter_broadcast(w: &mut [u64; 112], n: usize, u: Broadcast) -> usize
     }
 }
 
-// The id is drawn, and the tables hold so many.
-fn issued(c: Counts, unicasts: usize, unrouted: usize, held: usize, broadcasts: usize) -> Did
+// The next id is drawn: c counts what the tables hold with the new send.
+fn issued(c: Counts) -> Did
     requires { c.next_id < 4294967295 }
-    ensures { result ≡ drawn_by c unicasts unrouted held broadcasts }
+    ensures { result ≡ drawn_by c c.unicasts c.unrouted c.held c.broadcasts }
 {
     let after = Counts {
         next_id: c.next_id + 1,
-        unicasts: unicasts,
-        unrouted: unrouted,
-        held: held,
-        broadcasts: broadcasts,
+        ..c
     };
     doing::quiet(after, Answer::Issued(c.next_id))
 }
@@ -116,8 +126,8 @@ fn enqueue(
         return doing::denied(c, Refusal::NoPlace);
     }
     let x = unicast_as(c.next_id, u, copy, s, clock);
-    let n = enter_unicast(w, c.unicasts, x);
-    issued(c, n, c.unrouted, c.held, c.broadcasts)
+    let unicasts = enter_unicast(w, c.unicasts, x);
+    issued(Counts { unicasts, ..c })
 }
 
 // A unicast with a known next hop.
@@ -181,7 +191,11 @@ pub fn enqueue_unrouted_unicast(
     let x = unrouted_as(c.next_id, u, s, clock);
     match unrouted::enqueue(v, c.unrouted, d, c.held, x, s.discovery_attempts) {
         None => doing::denied(c, Refusal::NoPlace),
-        Some((n, k)) => issued(c, c.unicasts, n, k, c.broadcasts),
+        Some((unrouted, held)) => issued(Counts {
+            unrouted,
+            held,
+            ..c
+        }),
     }
 }
 
@@ -191,16 +205,8 @@ fn attempt_late(s: Schedule) -> bool
 {
     match s {
         Schedule::Once => false,
-        Schedule::PassiveAck {
-            key: _,
-            copies_remaining: _,
-            next_attempt,
-        } => doing::too_late(next_attempt),
-        Schedule::FixedInterval {
-            interval: _,
-            copies_remaining: _,
-            next_attempt,
-        } => doing::too_late(next_attempt),
+        Schedule::PassiveAck { next_attempt, .. } | Schedule::FixedInterval { next_attempt, .. } =>
+            { doing::too_late(next_attempt) }
     }
 }
 
@@ -219,14 +225,10 @@ pub fn enqueue_broadcast(
     requires { SoundTables c w.old v.old d.old b.old }
     ensures { Does (enqueue_broadcast_of (lent_model c w.old v.old d.old b.old) s u clock) told.old w.new v.new d.new b.new told.new result }
 {
-    let x = u.schedule;
-    if doing::too_late(clock) {
+    if doing::too_late(clock) || attempt_late(u.schedule) {
         return doing::denied(c, Refusal::TimeTooLate);
     }
-    if attempt_late(x) {
-        return doing::denied(c, Refusal::TimeTooLate);
-    }
-    if repeating::turns::no_copies(x) {
+    if turns::no_copies(u.schedule) {
         return doing::denied(c, Refusal::NoCopies);
     }
     if c.next_id == 4294967295 {
@@ -235,7 +237,7 @@ pub fn enqueue_broadcast(
     if 16 <= c.broadcasts {
         return doing::denied(c, Refusal::NoPlace);
     }
-    let y = broadcast_as(c.next_id, u, s, clock);
-    let n = enter_broadcast(b, c.broadcasts, y);
-    issued(c, c.unicasts, c.unrouted, c.held, n)
+    let x = broadcast_as(c.next_id, u, s, clock);
+    let broadcasts = enter_broadcast(b, c.broadcasts, x);
+    issued(Counts { broadcasts, ..c })
 }

@@ -10,8 +10,10 @@ ghost use Rattle.admitting.specs.Routes.{RoutedOne, Routable, RoutedAll};
 ghost use Rattle.model.specs.Model.{lent_model, SoundTables, Does};
 ghost use Rattle.model.specs.Calls.{reached, routed, retry_of, fail_of, route_of, routing};
 
+use crate::enqueues;
 use model::{Answer, Counts, Did, Resolved};
-use records::{Address, Destination, Refusal, Settings, Unicast, Unrouted, Verdict};
+use records::{Address, Destination, Refusal, Settings, Unicast, Unrouted, Verdict, blanks};
+use turning::rules;
 use unrouted::{Retry, Which};
 
 // How many unicasts there are, and the next place in the buffer.
@@ -65,38 +67,23 @@ pub fn fail_unrouted(
     let x = unrouted::fail(v, c.unrouted, d, c.held, told, 0, destination);
     Did {
         counts: Counts {
-            next_id: c.next_id,
-            unicasts: c.unicasts,
             unrouted: x.sends,
             held: x.held,
-            broadcasts: c.broadcasts,
+            ..c
         },
         answer: Answer::Accepted,
         told: x.told,
     }
 }
 
-// How many of the first n results succeed.
-fn successes(results: [Resolved; 16], n: usize) -> usize
-    requires { n ≤ 16 }
-    ensures { result ≡ count reached (take n results) }
+// How many results succeed.
+fn successes(results: &[Resolved]) -> usize
+    ensures { result ≡ count reached results.now }
 {
-    let mut good: usize = 0;
-    let mut i = n;
-    while 0 < i {
-        i = i - 1;
-        good = one_if_reached(results[i]) + good;
-    }
-    good
-}
-
-fn one_if_reached(x: Resolved) -> usize
-    ensures { result ≡ bit (reached x) }
-{
-    match x {
-        Resolved::Reached(_, _) => 1,
-        Resolved::Unreached(_) => 0,
-    }
+    results
+        .iter()
+        .filter(|x| matches!(x, Resolved::Reached(..)))
+        .count()
 }
 
 // The send as it enters the unicasts: under its id, with the deadline that it was admitted with.
@@ -104,14 +91,12 @@ fn routed_as(s: Settings, clock: u64, u: Unrouted, hop: u16, a: Address) -> Unic
     requires { clock ≤ last_time }
     ensures { result ≡ routed s clock u hop a }
 {
-    let p = u.priority;
-    let f = u.confirm;
-    turning::rules::admitted(
+    rules::admitted(
         u.id,
         u.frame,
         u.waiter,
-        p,
-        f,
+        u.priority,
+        u.confirm,
         hop,
         a,
         None,
@@ -141,16 +126,13 @@ fn route_one(
     match x {
         Resolved::Reached(hop, a) => {
             let y = routed_as(s, clock, u, hop, a);
-            let k = crate::enqueues::enter_unicast(w, n, y);
-            Entered { sends: k, told: m }
+            let sends = enqueues::enter_unicast(w, n, y);
+            Entered { sends, told: m }
         }
         Resolved::Unreached(code) => {
-            let e = records::blanks::unrouted_entry(u);
-            let next = actions::settle(told, m, e, Verdict::Code(code), None);
-            Entered {
-                sends: n,
-                told: next,
-            }
+            let e = blanks::unrouted_entry(u);
+            let told = actions::settle(told, m, e, Verdict::Code(code), None);
+            Entered { sends: n, told }
         }
     }
 }
@@ -178,24 +160,15 @@ fn route_all(
     let mut n = unicasts;
     let mut k = sends;
     let mut m = at;
-    let mut i: usize = 0;
-    while i < count {
-        match unrouted::take(v, k, destination) {
-            None => {
-                return Gone {
-                    unicasts: n,
-                    unrouted: k,
-                    told: m,
-                };
-            }
-            Some(u) => {
-                let x = route_one(w, n, told, m, s, clock, u, results[i]);
-                n = x.sends;
-                m = x.told;
-                k = k - 1;
-                i = i + 1;
-            }
-        }
+    for i in 0..count {
+        // as many sends go to the destination as there are results
+        let Some(u) = unrouted::take(v, k, destination) else {
+            unreachable!()
+        };
+        let x = route_one(w, n, told, m, s, clock, u, results[i]);
+        n = x.sends;
+        m = x.told;
+        k -= 1;
     }
     Gone {
         unicasts: n,
@@ -241,11 +214,10 @@ fn route_found(
     );
     Did {
         counts: Counts {
-            next_id: c.next_id,
             unicasts: x.unicasts,
             unrouted: x.unrouted,
-            held: held,
-            broadcasts: c.broadcasts,
+            held,
+            ..c
         },
         answer: Answer::Accepted,
         told: x.told,
@@ -275,7 +247,7 @@ pub fn route_unicasts(
     if n != unrouted::left_to(v, c.unrouted, destination, clock) {
         return doing::denied(c, Refusal::ResultsMismatch);
     }
-    if 32 - c.unicasts < successes(results, n) {
+    if 32 - c.unicasts < successes(&results[..n]) {
         return doing::denied(c, Refusal::NoPlace);
     }
     route_found(c, w, v, d, b, told, s, destination, clock, results, n)

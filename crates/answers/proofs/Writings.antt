@@ -1,12 +1,15 @@
 -- Bytes written one after the other: two writings in turn are one of both, and all else of the output stays. Numbers by one law over
 -- the width. Assumes nothing.
-use Prim.Native.Nat.{ℕ, zero, suc, ◌+◌, ◌-◌, ◌%◌, ◌/◌, ◌≤◌, ◌<◌}
-use native.Mathlib.Nat.{add-zero, add_assoc}
+use Prim.Native.Nat.{ℕ, zero, suc, ◌+◌, ◌^◌, ◌%◌, ◌/◌, ◌≤◌}
+use native.Mathlib.Nat.{add-zero, add_assoc, pow-suc, div-one, div-div-eq-div-mul}
 use native.Mathlib.Omega.{arith}
 use mathlib.Core.Path.{◌≡◌, refl, sym, ap, ap₂, ◌∙◌}
-use mathlib.Core.List.{List, [], ◌∷◌, ◌++◌}
+use mathlib.Core.List.{List, [], ◌∷◌, ◌++◌, append_assoc}
 use lib.ListN.{length, take, drop, set, length-append}
 use lib.Seq.{sets, sets-eq, length-sets, take-set-le, drop-set-lt, take_at, length-take-le}
+use Rattle.std.specs.Int.{w64, byte_at, bytes_low_first, to_le_bytes}
+use Rattle.std.proofs.lemmas.List.{drop-drop}
+use borrow.Rule.Slice.PartMut.{put_mid}
 use Rattle.rows.proofs.Sets.{sets-append}
 use Rattle.answers.specs.Bytes.{le_bytes, Written}
 
@@ -16,24 +19,31 @@ pub le-long : (width n : ℕ) → length (le_bytes width n) ≡ width
 le-long zero n = refl
 le-long (suc width) n = ap suc (le-long width (n / 256))
 
-pub le-start : (out : List ℕ) (at width n : ℕ) → sets out (at + 0) (le_bytes (width - 0) n) ≡ sets out at (le_bytes width n)
-le-start out at width n =
-    let a : at + 0 ≡ at = omega arith in
-    let b : width - 0 ≡ width = omega arith in
-    rw (a, b)
+-- the quotient by one byte more
+quotient-on : (i n : ℕ) → n / 256 ^ suc i ≡ n / 256 ^ i / 256
+quotient-on i n = ap (λ (k : ℕ). n / k) (pow-suc 256 i) ∙ sym (div-div-eq-div-mul n (256 ^ i) 256)
 
--- a turn: what is left to write, from here, still gives the whole
-pub le-turn : (out w : List ℕ) (at width j left : ℕ) → j < width → sets out (at + j) (le_bytes (width - j) left) ≡ w
-    → sets (set out (at + j) (left % 256)) (at + (j + 1)) (le_bytes (width - (j + 1)) (left / 256)) ≡ w
-le-turn out w at width j left h inv =
-    let a : at + (j + 1) ≡ suc (at + j) = omega arith in
-    let b : width - j ≡ suc (width - (j + 1)) = omega arith in
-    rw a (ap (λ (k : ℕ). sets out (at + j) (le_bytes k left)) (sym b) ∙ inv)
+byte-is : (i n : ℕ) → byte_at i n ≡ n / 256 ^ i % 256
+byte-is zero n = ap (λ (k : ℕ). k % 256) (sym (div-one n))
+byte-is (suc i) n = refl
 
-pub le-end : (out w : List ℕ) (at width j left : ℕ) → width ≤ j → sets out (at + j) (le_bytes (width - j) left) ≡ w → out ≡ w
-le-end out w at width j left h inv =
-    let e : width - j ≡ 0 = omega arith in
-    rw e at inv
+-- the lowest bytes that std gives, from byte i on, are those of the number over the bytes below
+bytes-front : (width w i n : ℕ) → width ≤ w → take width (bytes_low_first i w n) ≡ le_bytes width (n / 256 ^ i)
+bytes-front zero w i n h = refl
+bytes-front (suc width) zero i n h = absurd (omega arith)
+bytes-front (suc width) (suc w) i n h =
+    ap₂ (λ (b : ℕ) (l : List ℕ). b ∷ l) (byte-is i n) (bytes-front width w (suc i) n (omega arith) ∙ ap (le_bytes width) (quotient-on i n))
+
+pub le-front : (width n : ℕ) → width ≤ 8 → take width (to_le_bytes w64 n) ≡ le_bytes width n
+le-front width n h = bytes-front width 8 0 n h ∙ ap (le_bytes width) (div-one n)
+
+-- written in place of as many
+pub part-written : (at width : ℕ) (bytes out : List ℕ) → width ≡ length bytes → at + length bytes ≤ length out → put_mid at width out bytes ≡ sets out at bytes
+part-written at width bytes out e h =
+    ap (λ (k : ℕ). take at out ++ (bytes ++ drop k (drop at out))) e
+    ∙ ap (λ (l : List ℕ). take at out ++ (bytes ++ l)) (drop-drop (length bytes) at out)
+    ∙ sym (append_assoc (take at out) bytes (drop (at + length bytes) out))
+    ∙ sym (sets-eq bytes out at h)
 
 -- ---- in turn
 

@@ -18,24 +18,21 @@ pub(crate) fn put_two(out: &mut [u8], at: usize, kind: u8, b: u8) -> usize
     put_byte(out, next, b)
 }
 
-// A number in so many bytes.
+// A number in so many bytes, of which a u64 has 8.
 pub(crate) fn put_le(out: &mut [u8], at: usize, width: usize, n: u64) -> usize
-    requires { at + width ≤ length out.old }
+    requires few { width ≤ 8 }
+    requires room { at + width ≤ length out.old }
     ensures { Written at (le_bytes width n) out.old out.new result }
 {
-    let mut left = n;
-    let mut j: usize = 0;
-    while j < width {
-        out[at + j] = (left % 256) as u8;
-        left = left / 256;
-        j = j + 1;
-    }
-    at + width
+    let next = at + width;
+    out[at..next].copy_from_slice(&n.to_le_bytes()[..width]);
+    next
 }
 
 // A kind and a number.
 pub(crate) fn put_number(out: &mut [u8], at: usize, kind: u8, width: usize, n: u64) -> usize
-    requires { at + (1 + width) ≤ length out.old }
+    requires few { width ≤ 8 }
+    requires room { at + (1 + width) ≤ length out.old }
     ensures { Written at (kind ∷ le_bytes width n) out.old out.new result }
 {
     let next = put_byte(out, at, kind);
@@ -47,6 +44,6 @@ pub(crate) fn put_pair(out: &mut [u8], at: usize, kind: u8, id: u32, handle: u32
     requires { at + 9 ≤ length out.old }
     ensures { Written at (kind ∷ (le_bytes 4 id ++ le_bytes 4 handle)) out.old out.new result }
 {
-    let next = put_number(out, at, kind, 4, id as u64);
-    put_le(out, next, 4, handle as u64)
+    let next = put_number(out, at, kind, 4, u64::from(id));
+    put_le(out, next, 4, u64::from(handle))
 }

@@ -7,7 +7,7 @@ ghost use Rattle.answers.specs.Items.{item_bytes, action_bytes};
 ghost use Rattle.answers.specs.Types.{Refused, Done, Id, YesNo, Time, ShortAddress, ExtendedAddress, Abandonment, DestinationAddress};
 
 use model::Transmit;
-use records::{Action, Entry, QuorumKey, Refusal, Verdict};
+use records::{Action, Entry, QuorumKey, Refusal, Verdict, numbers};
 
 pub mod bytes;
 pub mod parts;
@@ -37,8 +37,8 @@ pub fn action_length(a: Action) -> usize
     ensures { result ≡ length (action_bytes a) }
 {
     match a {
-        Action::HandedOff(_, _) => 9,
-        Action::Settled(_, _, _) => 28,
+        Action::HandedOff(..) => 9,
+        Action::Settled(..) => 28,
     }
 }
 
@@ -51,7 +51,7 @@ pub fn put_refused(out: &mut [u8], at: usize, x: Refusal) -> usize
     requires { at + 2 ≤ length out.old }
     ensures { Written at (item_bytes (Refused x)) out.old out.new result }
 {
-    bytes::put_two(out, at, 128, records::numbers::refusal_number(x))
+    bytes::put_two(out, at, 128, numbers::refusal_number(x))
 }
 
 // 129 alone.
@@ -67,7 +67,7 @@ pub fn put_id(out: &mut [u8], at: usize, id: u32) -> usize
     requires { at + 5 ≤ length out.old }
     ensures { Written at (item_bytes (Id id)) out.old out.new result }
 {
-    bytes::put_number(out, at, 130, 4, id as u64)
+    bytes::put_number(out, at, 130, 4, u64::from(id))
 }
 
 // 134 and 1 for yes.
@@ -75,7 +75,7 @@ pub fn put_yes_no(out: &mut [u8], at: usize, yes: bool) -> usize
     requires { at + 2 ≤ length out.old }
     ensures { Written at (item_bytes (YesNo yes)) out.old out.new result }
 {
-    bytes::put_two(out, at, 134, yes as u8)
+    bytes::put_two(out, at, 134, u8::from(yes))
 }
 
 // 135 and the time.
@@ -91,7 +91,7 @@ pub fn put_short(out: &mut [u8], at: usize, x: u16) -> usize
     requires { at + 3 ≤ length out.old }
     ensures { Written at (item_bytes (ShortAddress x)) out.old out.new result }
 {
-    bytes::put_number(out, at, 136, 2, x as u64)
+    bytes::put_number(out, at, 136, 2, u64::from(x))
 }
 
 // 137 and the extended address.
@@ -115,7 +115,7 @@ pub fn put_destination(out: &mut [u8], at: usize, x: u16) -> usize
     requires { at + 3 ≤ length out.old }
     ensures { Written at (item_bytes (DestinationAddress x)) out.old out.new result }
 {
-    bytes::put_number(out, at, 140, 2, x as u64)
+    bytes::put_number(out, at, 140, 2, u64::from(x))
 }
 
 // Writes what a call told, as 131 or 132.

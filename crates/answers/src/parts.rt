@@ -3,8 +3,9 @@ ghost use Rattle.std.specs.Prelude.{◌+◌, ◌≤◌, length};
 ghost use Rattle.answers.specs.Bytes.{Written};
 ghost use Rattle.answers.specs.Items.{address_bytes, hop_bytes, verdict_bytes, transmit_bytes, settled_bytes, flight_bytes, key_bytes, end_bytes};
 
+use crate::bytes;
 use model::Transmit;
-use records::{Address, Entry, QuorumKey, Verdict};
+use records::{Address, Entry, QuorumKey, Verdict, numbers};
 
 // A tag and eight bytes.
 pub(crate) fn put_address(out: &mut [u8], at: usize, a: Address) -> usize
@@ -13,7 +14,7 @@ pub(crate) fn put_address(out: &mut [u8], at: usize, a: Address) -> usize
 {
     let tag = codes::address_tag(a);
     let word = codes::address_word(a);
-    crate::bytes::put_number(out, at, tag as u8, 8, word)
+    bytes::put_number(out, at, tag as u8, 8, word)
 }
 
 // A verdict's number, the address where it has one, and the caller's code.
@@ -21,12 +22,12 @@ pub(crate) fn put_verdict(out: &mut [u8], at: usize, v: Verdict) -> usize
     requires { at + 12 ≤ length out.old }
     ensures { Written at (verdict_bytes v) out.old out.new result }
 {
-    let number = records::numbers::verdict_number(v);
-    let a = records::numbers::verdict_address(v);
-    let code = records::numbers::verdict_code(v);
-    let second = crate::bytes::put_byte(out, at, number);
+    let number = numbers::verdict_number(v);
+    let a = numbers::verdict_address(v);
+    let code = numbers::verdict_code(v);
+    let second = bytes::put_byte(out, at, number);
     let third = put_address(out, second, a);
-    crate::bytes::put_le(out, third, 2, code as u64)
+    bytes::put_le(out, third, 2, u64::from(code))
 }
 
 // A flag and the hop at which the attempts ran out.
@@ -35,18 +36,24 @@ pub(crate) fn put_hop(out: &mut [u8], at: usize, hop: Option<u16>) -> usize
     ensures { Written at (hop_bytes hop) out.old out.new result }
 {
     match hop {
-        None => crate::bytes::put_number(out, at, 0, 2, 0),
-        Some(x) => crate::bytes::put_number(out, at, 1, 2, x as u64),
+        None => bytes::put_number(out, at, 0, 2, 0),
+        Some(x) => bytes::put_number(out, at, 1, 2, u64::from(x)),
     }
 }
 
 // 132: id, waiter, frame, verdict, hop.
-pub(crate) fn put_settled(out: &mut [u8], at: usize, e: Entry, v: Verdict, hop: Option<u16>) -> usize
+pub(crate) fn put_settled(
+    out: &mut [u8],
+    at: usize,
+    e: Entry,
+    v: Verdict,
+    hop: Option<u16>,
+) -> usize
     requires { at + 28 ≤ length out.old }
     ensures { Written at (settled_bytes e v hop) out.old out.new result }
 {
-    let second = crate::bytes::put_pair(out, at, 132, e.id, e.waiter);
-    let third = crate::bytes::put_le(out, second, 4, e.frame as u64);
+    let second = bytes::put_pair(out, at, 132, e.id, e.waiter);
+    let third = bytes::put_le(out, second, 4, u64::from(e.frame));
     let fourth = put_verdict(out, third, v);
     put_hop(out, fourth, hop)
 }
@@ -58,10 +65,10 @@ pub(crate) fn put_transmit(out: &mut [u8], at: usize, t: Transmit) -> usize
 {
     match t {
         Transmit::Unicasting(hop, pending) => {
-            let next = crate::bytes::put_number(out, at, 0, 2, hop as u64);
-            crate::bytes::put_byte(out, next, pending as u8)
+            let next = bytes::put_number(out, at, 0, 2, u64::from(hop));
+            bytes::put_byte(out, next, u8::from(pending))
         }
-        Transmit::Broadcasting => crate::bytes::put_number(out, at, 1, 3, 0),
+        Transmit::Broadcasting => bytes::put_number(out, at, 1, 3, 0),
     }
 }
 
@@ -70,7 +77,7 @@ pub fn put_flight(out: &mut [u8], at: usize, id: u32, frame: u32, t: Transmit) -
     requires { at + 13 ≤ length out.old }
     ensures { Written at (flight_bytes id frame t) out.old out.new result }
 {
-    let next = crate::bytes::put_pair(out, at, 133, id, frame);
+    let next = bytes::put_pair(out, at, 133, id, frame);
     put_transmit(out, next, t)
 }
 
@@ -79,8 +86,8 @@ pub fn put_key(out: &mut [u8], at: usize, k: QuorumKey) -> usize
     requires { at + 4 ≤ length out.old }
     ensures { Written at (key_bytes k) out.old out.new result }
 {
-    let next = crate::bytes::put_number(out, at, 138, 2, k.src as u64);
-    crate::bytes::put_byte(out, next, k.sequence)
+    let next = bytes::put_number(out, at, 138, 2, u64::from(k.src));
+    bytes::put_byte(out, next, k.sequence)
 }
 
 // 141: the run's status and the bytes consumed.
@@ -88,6 +95,6 @@ pub fn put_end(out: &mut [u8], at: usize, status: u8, consumed: u32) -> usize
     requires { at + 6 ≤ length out.old }
     ensures { Written at (end_bytes status consumed) out.old out.new result }
 {
-    let next = crate::bytes::put_two(out, at, 141, status);
-    crate::bytes::put_le(out, next, 4, consumed as u64)
+    let next = bytes::put_two(out, at, 141, status);
+    bytes::put_le(out, next, 4, u64::from(consumed))
 }

@@ -1,9 +1,8 @@
 -- A call on the broadcast with an id, once that was found or not. Assumes nothing.
 use Rattle.std.specs.Prelude.{Option, None, Some}
 use Prim.Native.Nat.{ℕ, ◌<◌}
-use native.Mathlib.Omega.{arith}
 use mathlib.Core.Path.{◌≡◌, refl, sym, ap, ◌∙◌}
-use mathlib.Core.Bool.{Bool, true, false, not}
+use mathlib.Core.Bool.{true, false}
 use mathlib.Core.List.{List, []}
 use lib.ListN.{get_or, set}
 use borrow.Author.Tests.{eq-eqb, ne_eqb}
@@ -23,14 +22,6 @@ use Rattle.casting.specs.declared.Outcome.TheVariants.{Refused, Done}
 use Rattle.broadcasts.specs.Calls.{Answered, Dequeued}
 use Rattle.casting.specs.Rules.{in_radio, report_bar, cancel_bar, lent, lent_of, dequeue_turn}
 use Rattle.broadcasts.proofs.Plays.{as-played}
-
-pub not-true : (b : Bool) → not b ≡ true → b ≡ false
-not-true true e = let z : ◌≡◌ {A = ℕ} 0 1 = cc in absurd (omega arith)
-not-true false e = refl
-
-pub not-false : (b : Bool) → not b ≡ false → b ≡ true
-not-false true e = refl
-not-false false e = let z : ◌≡◌ {A = ℕ} 0 1 = cc in absurd (omega arith)
 
 -- ---- the refusals
 

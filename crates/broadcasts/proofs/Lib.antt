@@ -1,4 +1,3 @@
 pub mod Plays
 pub mod Found
 pub mod Ones
-pub mod Places

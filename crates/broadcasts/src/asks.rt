@@ -7,21 +7,24 @@ ghost use Rattle.rows.specs.Moves.{any_of};
 ghost use Rattle.tables.specs.Layouts.{broadcast_table, broadcast_head};
 ghost use Rattle.casting.specs.Rules.{best_head, best_of, may_stir, wake_of, is_transmitting, awaited_head};
 
-use records::{Broadcast, CopyState, QuorumKey};
+use casting::heads;
+use records::priorities::rank;
+use records::{Broadcast, CopyState};
+use repeating::turns;
+use tables::broadcast_rows;
 
 // The better of the broadcast at a place and the best of those with higher ids. One that is not ready is not read further.
 fn best_at(w: &[u64; 112], i: usize, clock: u64, best: Option<(u32, u8)>) -> Option<(u32, u8)>
     requires { i < 16 }
     ensures { result ≡ best_head clock (broadcast_head (get_or (rows_of broadcast_table w.now) i blank_broadcast)) best }
 {
-    let c = tables::broadcast_rows::copy(w, i);
-    let d = tables::broadcast_rows::deadline(w, i);
-    if casting::heads::is_ready(c, d, clock) {
-        let h = tables::broadcast_rows::head(w, i);
-        let p = h.priority;
-        return casting::heads::better_of(h.id, records::priorities::rank(p), best);
+    let copy = broadcast_rows::copy(w, i);
+    let deadline = broadcast_rows::deadline(w, i);
+    if !heads::is_ready(copy, deadline, clock) {
+        return best;
     }
-    best
+    let h = broadcast_rows::head(w, i);
+    heads::better_of(h.id, rank(h.priority), best)
 }
 
 // The best queued one: of the highest priority, and then of the lowest id. One past its deadline is left for the tick.
@@ -29,13 +32,9 @@ pub fn best_queued(w: &[u64; 112], n: usize, clock: u64) -> Option<(u32, u8)>
     requires { Held broadcast_table w.now n }
     ensures { result ≡ best_of clock (live broadcast_table w.now n) }
 {
-    let mut best = None;
-    let mut i = n;
-    while 0 < i {
-        best = best_at(w, i - 1, clock, best);
-        i = i - 1;
-    }
-    best
+    (0..n)
+        .rev()
+        .fold(None, |best, i| best_at(w, i, clock, best))
 }
 
 // Whether a tick may change the broadcast at a place.
@@ -43,17 +42,9 @@ fn may_stir_at(w: &[u64; 112], i: usize, clock: u64) -> bool
     requires { i < 16 }
     ensures { result ≡ may_stir clock (get_or (rows_of broadcast_table w.now) i blank_broadcast) }
 {
-    if tables::broadcast_rows::deadline(w, i) <= clock {
-        return true;
-    }
-    match tables::broadcast_rows::copy(w, i) {
-        CopyState::Idle => casting::heads::attempt_due(
-            tables::broadcast_rows::schedule(w, i),
-            clock,
-        ),
-        CopyState::CopyQueued => false,
-        CopyState::CopyTransmitting => false,
-    }
+    let due = broadcast_rows::deadline(w, i) <= clock;
+    due || (matches!(broadcast_rows::copy(w, i), CopyState::Idle)
+        && heads::attempt_due(broadcast_rows::schedule(w, i), clock))
 }
 
 // Whether there is a broadcast that a tick may change.
@@ -61,14 +52,7 @@ pub fn any_stirs(w: &[u64; 112], n: usize, clock: u64) -> bool
     requires { Held broadcast_table w.now n }
     ensures { result ≡ any_of (may_stir clock) (live broadcast_table w.now n) }
 {
-    let mut i: usize = 0;
-    while i < n {
-        if may_stir_at(w, i, clock) {
-            return true;
-        }
-        i = i + 1;
-    }
-    false
+    (0..n).any(|i| may_stir_at(w, i, clock))
 }
 
 // When a tick next has something to do.
@@ -76,14 +60,10 @@ pub fn next_wake(w: &[u64; 112], n: usize) -> Option<u64>
     requires { Held broadcast_table w.now n }
     ensures { result ≡ wake_of (live broadcast_table w.now n) }
 {
-    let mut wake = None;
-    let mut i = n;
-    while 0 < i {
-        let h = tables::broadcast_rows::head(w, i - 1);
-        wake = casting::heads::wake(h, wake);
-        i = i - 1;
-    }
-    wake
+    (0..n).rev().fold(
+        None,
+        |wake, i| heads::wake(broadcast_rows::head(w, i), wake),
+    )
 }
 
 // Whether the broadcast with that id is in the radio.
@@ -94,9 +74,8 @@ pub fn is_transmitting(w: &[u64; 112], n: usize, id: u32) -> bool
     match tables::find::<Broadcast>(w, n, id) {
         None => false,
         Some(i) => {
-            let h = tables::broadcast_rows::head(w, i);
-            let c = h.copy;
-            repeating::turns::in_radio(c)
+            let h = broadcast_rows::head(w, i);
+            turns::in_radio(h.copy)
         }
     }
 }
@@ -106,5 +85,5 @@ pub fn awaited_at(w: &[u64; 112], i: usize) -> Option<QuorumKey>
     requires { i < 16 }
     ensures { result ≡ awaited_head (broadcast_head (get_or (rows_of broadcast_table w.now) i blank_broadcast)) }
 {
-    casting::heads::awaited(tables::broadcast_rows::head(w, i))
+    heads::awaited(broadcast_rows::head(w, i))
 }

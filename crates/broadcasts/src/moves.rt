@@ -9,8 +9,12 @@ ghost use Rattle.actions.specs.Calls.{Swept, Turned, Played};
 ghost use Rattle.casting.specs.Rules.{turn_b, admitted_of, keyed, report_turn, report_bar, delivered_turn, cancel_turn, cancel_bar, tick_turn};
 ghost use Rattle.broadcasts.specs.Calls.{Plays, Answered, Dequeued};
 
-use casting::{Counts, Outcome, TurnB};
+use crate::asks;
+use casting::{Counts, Outcome, TurnB, heads};
+use records::blanks::broadcast_entry;
 use records::{Broadcast, Priority, QuorumKey, Refusal, Schedule, TxResult};
+use repeating::turns;
+use tables::broadcast_rows;
 
 // The broadcast at place i, which is u, has this turn.
 fn play(
@@ -26,7 +30,7 @@ fn play(
     requires plays { Plays w.old n m i u (turn_b t) }
     ensures { Played broadcast_table broadcast_entry (turn_b t) i u w.old n told.old m w.new result.sends told.new result.told }
 {
-    let e = records::blanks::broadcast_entry(u);
+    let e = broadcast_entry(u);
     match t {
         TurnB::KeepsB(b) => {
             tables::store(w, n, i, b);
@@ -67,7 +71,7 @@ pub fn enqueue(
     requires clock_le_last_time { clock ≤ last_time }
     ensures { Entered broadcast_table w.old n (admitted_of id frame waiter priority schedule clock handoff) w.new result }
 {
-    let b = repeating::turns::admitted(id, frame, waiter, priority, schedule, clock, handoff);
+    let b = turns::admitted(id, frame, waiter, priority, schedule, clock, handoff);
     tables::insert(w, n, b)
 }
 
@@ -80,7 +84,7 @@ pub fn dequeue(w: &mut [u64; 112], n: usize, id: u32) -> Option<u32>
         None => None,
         Some(i) => {
             let u = tables::load::<Broadcast>(w, i);
-            tables::store(w, n, i, repeating::turns::dequeued(u));
+            tables::store(w, n, i, turns::dequeued(u));
             Some(u.frame)
         }
     }
@@ -107,14 +111,13 @@ pub fn report(
         None => Outcome::Refused(Refusal::NoSuchSend),
         Some(i) => {
             let u = tables::load::<Broadcast>(w, i);
-            let c = u.copy;
-            if !repeating::turns::in_radio(c) {
+            if !turns::in_radio(u.copy) {
                 return Outcome::Refused(Refusal::NotInTheRadio);
             }
             if u.frame != frame {
                 return Outcome::Refused(Refusal::OtherFrame);
             }
-            let t = repeating::turns::report(u, x, clock, delay);
+            let t = turns::report(u, x, clock, delay);
             Outcome::Done(play(w, n, told, m, i, u, t))
         }
     }
@@ -130,11 +133,10 @@ pub fn cancel(w: &mut [u64; 112], n: usize, told: &mut [u64; 560], m: usize, id:
         None => Outcome::Refused(Refusal::NoSuchSend),
         Some(i) => {
             let u = tables::load::<Broadcast>(w, i);
-            let c = u.copy;
-            if repeating::turns::in_radio(c) {
+            if turns::in_radio(u.copy) {
                 return Outcome::Refused(Refusal::InTheRadio);
             }
-            let t = repeating::turns::cancel(u);
+            let t = turns::cancel(u);
             Outcome::Done(play(w, n, told, m, i, u, t))
         }
     }
@@ -145,14 +147,10 @@ pub fn first_keyed(w: &[u64; 112], n: usize, key: QuorumKey) -> Option<usize>
     requires { Held broadcast_table w.now n }
     ensures { result ≡ first_at (keyed key) (live broadcast_table w.now n) }
 {
-    let mut i: usize = 0;
-    while i < n {
-        if casting::heads::is_keyed(tables::broadcast_rows::schedule(w, i), key) {
-            return Some(i);
-        }
-        i = i + 1;
+    match (0..n).find(|i| heads::is_keyed(broadcast_rows::schedule(w, *i), key)) {
+        Some(i) => Some(i),
+        None => None,
     }
-    None
 }
 
 // The quorum for that key was heard.
@@ -171,7 +169,7 @@ pub fn delivered(
         None => Counts { sends: n, told: m },
         Some(i) => {
             let u = tables::load::<Broadcast>(w, i);
-            let t = repeating::turns::delivered(u);
+            let t = turns::delivered(u);
             play(w, n, told, m, i, u, t)
         }
     }
@@ -191,11 +189,12 @@ fn tick_at(
     ensures { Played broadcast_table broadcast_entry (tick_turn clock (get_or (rows_of broadcast_table w.old) i blank_broadcast)) i (get_or (rows_of broadcast_table w.old) i blank_broadcast) w.old n told.old m w.new result.sends told.new result.told }
 {
     let u = tables::load::<Broadcast>(w, i);
-    let t = repeating::turns::tick(u, clock);
+    let t = turns::tick(u, clock);
     play(w, n, told, m, i, u, t)
 }
 
-// What time does to every broadcast, place by place.
+// What time does to every broadcast, place by place. The loop is no `for`, since the broadcast that follows one that is settled
+// then stands in its place.
 fn tick_each(
     w: &mut [u64; 112],
     sends: usize,
@@ -209,16 +208,16 @@ fn tick_each(
 {
     let mut n = sends;
     let mut m = at;
-    let mut i: usize = 0;
+    let mut i = 0;
     while i < n {
-        if casting::heads::stirs(tables::broadcast_rows::head(w, i), clock) {
+        if heads::stirs(broadcast_rows::head(w, i), clock) {
             let c = tick_at(w, n, told, m, i, clock);
             // the place of a settled one is the next one's
             i = i + 1 + c.sends - n;
             n = c.sends;
             m = c.told;
         } else {
-            i = i + 1;
+            i += 1;
         }
     }
     Counts { sends: n, told: m }
@@ -237,13 +236,10 @@ pub fn tick(
     requires sends_bound { at + sends * 2 ≤ 112 }
     ensures { Swept broadcast_table broadcast_entry (tick_turn clock) w.old sends told.old at w.new result.sends told.new result.told }
 {
-    if crate::asks::any_stirs(w, sends, clock) {
+    if asks::any_stirs(w, sends, clock) {
         return tick_each(w, sends, told, at, clock);
     }
-    Counts {
-        sends: sends,
-        told: at,
-    }
+    Counts { sends, told: at }
 }
 
 // The table is emptied.

@@ -20,11 +20,7 @@ pub fn too_late(clock: u64) -> bool
 pub fn denied(c: Counts, x: Refusal) -> Did
     ensures { result ≡ denied_by c x }
 {
-    Did {
-        counts: c,
-        answer: Answer::Denied(x),
-        told: 0,
-    }
+    quiet(c, Answer::Denied(x))
 }
 
 // Nothing is told.
@@ -41,23 +37,11 @@ pub fn quiet(c: Counts, a: Answer) -> Did
 pub fn with_unicasts(c: Counts, n: usize) -> Counts
     ensures { result ≡ with_unicast_count c n }
 {
-    Counts {
-        next_id: c.next_id,
-        unicasts: n,
-        unrouted: c.unrouted,
-        held: c.held,
-        broadcasts: c.broadcasts,
-    }
+    Counts { unicasts: n, ..c }
 }
 
 pub fn with_broadcasts(c: Counts, n: usize) -> Counts
     ensures { result ≡ with_broadcast_count c n }
 {
-    Counts {
-        next_id: c.next_id,
-        unicasts: c.unicasts,
-        unrouted: c.unrouted,
-        held: c.held,
-        broadcasts: n,
-    }
+    Counts { broadcasts: n, ..c }
 }

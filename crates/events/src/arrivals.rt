@@ -6,7 +6,6 @@ use crate::Event;
 use fields::numbers::{byte_at, u16_at, u32_at, u64_at};
 use fields::parts::{address_at, confirm_at, priority_by, schedule_at};
 use model::{NewBroadcast, NewUnicast, NewUnrouted};
-use records::{Address, Confirm, Priority, Schedule};
 
 // ---- a unicast
 
@@ -20,22 +19,16 @@ pub(crate) fn unicast_with(
 ) -> Option<NewUnicast>
     ensures { result ≡ unicast_with frame waiter hop level address settling }
 {
-    match level {
-        Some(priority) => match address {
-            Some(poll_address) => match settling {
-                Some(confirm) => Some(NewUnicast {
-                    frame,
-                    waiter,
-                    priority,
-                    confirm,
-                    next_hop: hop,
-                    poll_address,
-                }),
-                None => None,
-            },
-            None => None,
-        },
-        None => None,
+    match (level, address, settling) {
+        (Some(priority), Some(poll_address), Some(confirm)) => Some(NewUnicast {
+            frame,
+            waiter,
+            priority,
+            confirm,
+            next_hop: hop,
+            poll_address,
+        }),
+        _ => None,
     }
 }
 
@@ -87,21 +80,18 @@ pub(crate) fn unrouted_with(
 ) -> Event
     ensures { result ≡ unrouted_with clock frame waiter destination level settling }
 {
-    match level {
-        Some(priority) => match settling {
-            Some(confirm) => Event::OnUnrouted(
-                clock,
-                NewUnrouted {
-                    frame,
-                    waiter,
-                    priority,
-                    confirm,
-                    destination,
-                },
-            ),
-            None => Event::Malformed,
-        },
-        None => Event::Malformed,
+    match (level, settling) {
+        (Some(priority), Some(confirm)) => Event::OnUnrouted(
+            clock,
+            NewUnrouted {
+                frame,
+                waiter,
+                priority,
+                confirm,
+                destination,
+            },
+        ),
+        _ => Event::Malformed,
     }
 }
 
@@ -129,20 +119,17 @@ pub(crate) fn broadcast_with(
 ) -> Event
     ensures { result ≡ broadcast_with clock frame waiter level plan }
 {
-    match level {
-        Some(priority) => match plan {
-            Some(schedule) => Event::OnBroadcast(
-                clock,
-                NewBroadcast {
-                    frame,
-                    waiter,
-                    priority,
-                    schedule,
-                },
-            ),
-            None => Event::Malformed,
-        },
-        None => Event::Malformed,
+    match (level, plan) {
+        (Some(priority), Some(schedule)) => Event::OnBroadcast(
+            clock,
+            NewBroadcast {
+                frame,
+                waiter,
+                priority,
+                schedule,
+            },
+        ),
+        _ => Event::Malformed,
     }
 }
 

@@ -88,10 +88,8 @@ fn route_results(b: &[u8]) -> [Resolved; 16]
     ensures { result ≡ results_of b.now }
 {
     let mut results = [Resolved::Unreached(0); 16];
-    let mut i: usize = 0;
-    while i < 16 {
+    for i in 0..16 {
         results[i] = result_in(resolved_at(b, i * 14 + 11));
-        i = i + 1;
     }
     results
 }
@@ -121,14 +119,7 @@ fn entries_right(b: &[u8], count: usize) -> bool
     requires { 235 ≤ length b.now }
     ensures { result ≡ entries_right b.now count 0 16 }
 {
-    let mut i: usize = 0;
-    while i < 16 {
-        if !entry_right(b, count, i) {
-            return false;
-        }
-        i = i + 1;
-    }
-    true
+    (0..16).all(|i| entry_right(b, count, i))
 }
 
 pub fn decode_route(b: &[u8]) -> Event
@@ -137,7 +128,7 @@ pub fn decode_route(b: &[u8]) -> Event
 {
     let clock = u64_at(b, 0);
     let destination = u16_at(b, 8);
-    let count = byte_at(b, 10) as usize;
+    let count = usize::from(byte_at(b, 10));
     if 16 < count {
         return Event::Malformed;
     }

@@ -5,22 +5,17 @@ ghost use Rattle.events.specs.Signals.{settings_in, settings_of, dequeue_of, rep
 use crate::Event;
 use fields::numbers::{byte_at, u16_at, u32_at, u64_at};
 use fields::parts::{address_at, key_at, lender_by, opt16_by, opt64_by, result_by};
-use model::Lender;
-use records::{Address, QuorumKey, Settings, TxResult};
+use records::{Address, QuorumKey, Settings};
 
 pub fn settings_in(b: &[u8]) -> Settings
     requires { 10 ≤ length b.now }
     ensures { result ≡ settings_in b.now }
 {
-    let handoff_timeout = u32_at(b, 0);
-    let persistence_time = u32_at(b, 4);
-    let unicast_retries = byte_at(b, 8);
-    let discovery_attempts = byte_at(b, 9);
     Settings {
-        handoff_timeout,
-        persistence_time,
-        unicast_retries,
-        discovery_attempts,
+        handoff_timeout: u32_at(b, 0),
+        persistence_time: u32_at(b, 4),
+        unicast_retries: byte_at(b, 8),
+        discovery_attempts: byte_at(b, 9),
     }
 }
 
@@ -50,19 +45,16 @@ pub(crate) fn report_with(
 ) -> Event
     ensures { result ≡ report_with lender id frame outcome clock delay }
 {
-    match lender {
-        Some(from) => match outcome {
-            Some(result) => Event::OnReport {
-                from,
-                id,
-                frame,
-                result,
-                clock,
-                delay,
-            },
-            None => Event::Malformed,
+    match (lender, outcome) {
+        (Some(from), Some(result)) => Event::OnReport {
+            from,
+            id,
+            frame,
+            result,
+            clock,
+            delay,
         },
-        None => Event::Malformed,
+        _ => Event::Malformed,
     }
 }
 
@@ -88,12 +80,9 @@ pub(crate) fn poll_with(
 ) -> Event
     ensures { result ≡ poll_with clock extended short }
 {
-    match extended {
-        Some(eui) => match short {
-            Some(nwk) => Event::OnPoll(clock, eui, nwk),
-            None => Event::Malformed,
-        },
-        None => Event::Malformed,
+    match (extended, short) {
+        (Some(eui), Some(nwk)) => Event::OnPoll(clock, eui, nwk),
+        _ => Event::Malformed,
     }
 }
 
@@ -187,12 +176,8 @@ pub(crate) fn awaiting_by(address: Option<Address>) -> Event
     ensures { result ≡ awaiting_event address }
 {
     match address {
-        Some(a) => match a {
-            Address::Absent => Event::Malformed,
-            Address::Short(x) => Event::OnHasAwaiting(Address::Short(x)),
-            Address::Extended(x) => Event::OnHasAwaiting(Address::Extended(x)),
-        },
-        None => Event::Malformed,
+        Some(Address::Absent) | None => Event::Malformed,
+        Some(a) => Event::OnHasAwaiting(a),
     }
 }
 

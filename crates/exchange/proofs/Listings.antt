@@ -8,11 +8,10 @@ use mathlib.Core.Path.{◌≡◌, refl, sym, ap, ap₂, ◌∙◌}
 use mathlib.Core.Bool.{Bool, true, false}
 use mathlib.Core.List.{List, [], ◌∷◌, ◌++◌, map, map-map}
 use lib.ListN.{length, take, drop, get_or, length-map}
-use lib.Seq.{sets, length-sets}
+use lib.Seq.{length-sets}
 use lib.Dec.{eqb}
 use Rattle.records.specs.Pick.{pick}
 use Rattle.records.specs.Records.{destination_address}
-use Rattle.records.proofs.Cases.{never}
 use Rattle.rows.specs.Lists.{All}
 use Rattle.rows.specs.Rows.{rows_from, flat}
 use Rattle.rows.specs.Tables.{rows_of, live, Held}
@@ -23,14 +22,10 @@ use Rattle.codes.proofs.Backs.{quorum-back}
 use Rattle.tables.specs.Layouts.{unicast_table, destination_table, broadcast_table, broadcast_layout, broadcast_head}
 use Rattle.records.specs.declared.Schedule.TheVariants.{Once, PassiveAck, FixedInterval}
 use Rattle.casting.specs.Rules.{awaited_by, awaited_head, listed, awaited_of}
-use Rattle.sending.specs.Members.{map_fits}
 use Rattle.model.specs.Steps.{members_of}
 use Rattle.model.proofs.Kepts.{all_map}
-use Rattle.sending.specs.declared.Book.{Book}
-use Rattle.lent.specs.declared.lists.Matched.{Matched}
-use Rattle.lent.specs.declared.lists.Matched.TheVariants.{MapBarred, Members}
 use Rattle.doing.specs.Parts.{entry_words, Listed}
-use Rattle.lent.specs.Fills.{Filled, Matching}
+use Rattle.lent.specs.Fills.{Filled}
 use Rattle.lent.proofs.Fillings.{members-few}
 use Rattle.answers.specs.Bytes.{le_bytes, Written}
 use Rattle.answers.specs.Items.{item_bytes, items_bytes}
@@ -185,9 +180,6 @@ two-words : (es : List Entry) → by_two (flat entry_words es) ≡ map (λ (e : 
 two-words [] = refl
 two-words (e ∷ es) = ap (λ (l : List Item). abandoned_item e.id e.waiter ∷ l) (two-words es)
 
-pub listed-long : {at : ℕ} {es : List Entry} {list list' : List ℕ} {n : ℕ} → Listed at es list list' n → length list' ≡ length list
-listed-long {at} {es} {list} {list'} {n} h = ap length h.words ∙ length-sets list (at * 2) (flat entry_words es)
-
 pub abandoned-bytes : {es : List Entry} {list list' : List ℕ} {n : ℕ} → Listed 0 es list list' n → length list ≡ 128 → length es ≤ 64
     → items_bytes (abandoned_items list' n) ≡ items_bytes (map abandonment es)
 abandoned-bytes {es} {list} {list'} {n} l e h =
@@ -286,27 +278,3 @@ module _ {items : List Item} {ds ks ss ls : List ℕ} {n : Sizes} (g : Saying it
   pub says_all : {out' : List ℕ} {r : ℕ} → gathered_long n ≤ length out - at - 6 → Written at (items_bytes (gathered_items ds ks ss ls n)) out out' r
       → Answering items at out out' r
   says_all h w = answering-as g.is (all_fit {is = gathered_items ds ks ss ls n} room (omega (arith, g.long)) w)
-
--- ---- the members of a set, where the map is one that a call takes
-
-abbrev members_in : Matched → ℕ
-members_in MapBarred = 0
-members_in (Members m) = m
-
-abbrev is_members : Matched → Bool
-is_members MapBarred = false
-is_members (Members m) = true
-
-module _ {book : Book} {es ns : List ℕ} {us : List Unicast} {out out' : List ℕ} {r : Matched} (e : map_fits es ns ≡ true) (m : Matching book es ns us out out' r) where
-  is-members : r ≡ Members (length (members_of book es ns us))
-  is-members = m.answer ∙ ap (λ (b : Bool). pick b (Members (length (members_of book es ns us))) MapBarred) e
-
-  pub members-filled : {n : ℕ} → r ≡ Members n → Filled 0 (members_of book es ns us) out out' n
-  members-filled q =
-      record {
-        words = m.words ∙ ap (λ (b : Bool). pick b (sets out 0 (members_of book es ns us)) out) e;
-        next = ap members_in (sym q ∙ is-members) ∙ sym (zero-add (length (members_of book es ns us)));
-      }
-
-  pub members-never : {A : Type 0} → r ≡ MapBarred → A
-  members-never q = never (sym (ap is_members q) ∙ ap is_members is-members)

@@ -26,7 +26,7 @@ use Rattle.replies.specs.Replies.{acts_of, reply_items}
 use Rattle.replies.proofs.Backs.{told-acts}
 use Rattle.listings.specs.Maps.{keys_with, shorts_with, MapSound, map_full, pairs_after, PairPut}
 use Rattle.listings.proofs.Pairings.{pairs-long, take-front}
-use Rattle.exchange.specs.Types.{Counts, Did, Abandoned, Entry, Settings, Resolved, NoPlace, Item, Refused, Done, ShortAddress, ExtendedAddress, Shorts, Longs, Left, Event, OnSettings, OnUnicast, OnCopy, OnUnrouted, OnBroadcast, OnDequeue, OnReport, OnPoll, OnAck, OnRetry, OnFail, OnRoute, OnDelivered, OnDrop, OnCancel, OnTick, OnAbandon, OnNextWake, OnPair, OnLists, OnHasUnrouted, OnHasAwaiting, Malformed}
+use Rattle.exchange.specs.Types.{Counts, Did, Abandoned, Entry, Settings, Resolved, Item, Done, ShortAddress, ExtendedAddress, Shorts, Longs, Left, Event, OnSettings, OnUnicast, OnCopy, OnUnrouted, OnBroadcast, OnDequeue, OnReport, OnPoll, OnAck, OnRetry, OnFail, OnRoute, OnDelivered, OnDrop, OnCancel, OnTick, OnAbandon, OnNextWake, OnPair, OnLists, OnHasUnrouted, OnHasAwaiting, Malformed}
 use Rattle.exchange.specs.World.{World, Step, with_model, abandonment, called, list_items, step_on, world_of}
 use Rattle.exchange.specs.Gathered.{listed_items}
 use Rattle.sending.specs.Members.{map_fits}
@@ -212,25 +212,6 @@ module _ {c : Counts} {ws vs ds bs es ns buf : List ℕ} {pairs : ℕ} (ready : 
 
   -- a pair that is barred, and one that is put
   module _ {x y : ℕ} {es' ns' : List ℕ} {p : Option ℕ} (h : PairPut x y pairs es ns es' ns' p) {at : ℕ} {out out' : List ℕ} {r : ℕ} where
-    pub turned-barred : p ≡ None → Answering (Refused NoPlace ∷ []) at out out' r
-        → Turned (step_on here (OnPair x y) []) at out ws vs ds bs es' ns' buf out' (record { counts = c; settings = s; pairs = pairs; wrote = r })
-    turned-barred e a = by-test (map_full x es pairs) refl
-      where
-        left : Left
-        left = record { counts = c; settings = s; pairs = pairs; wrote = r }
-
-        by-test : (b : Bool) → map_full x es pairs ≡ b → Turned (step_on here (OnPair x y) []) at out ws vs ds bs es' ns' buf out' left
-        by-test true f =
-            let k : es' ≡ es = h.keys ∙ ap (λ (b : Bool). pick b es (sets es 0 (keys_with x (take pairs es)))) f in
-            let n : ns' ≡ ns = h.shorts ∙ ap (λ (b : Bool). pick b ns (sets ns 0 (shorts_with x y (take pairs es) (take pairs ns)))) f in
-            rw f
-            (record {
-              world = ap₂ (λ (u v : List ℕ). world_of c ws vs ds bs s u v pairs) k n;
-              ready = record { tables = ready.tables; model = ready.model; map = subst (λ (q : Option ℕ). MapSound es' ns' (pairs_after pairs q)) e h.sound; buffer = ready.buffer };
-              answers = a;
-            })
-        by-test false f = absurd (no (sym (ap is_barred (h.answer ∙ ap (λ (b : Bool). pick b None (Some (length (keys_with x (take pairs es))))) f)) ∙ ap is_barred e))
-
     pub turned_pair : {m : ℕ} → p ≡ Some m → Answering (Done ∷ []) at out out' r
         → Turned (step_on here (OnPair x y) []) at out ws vs ds bs es' ns' buf out' (record { counts = c; settings = s; pairs = m; wrote = r })
     turned_pair {m} e a = by-test (map_full x es pairs) refl

@@ -10,6 +10,10 @@ ghost use Rattle.exchange.specs.World.{world_of, is_own, step_on};
 ghost use Rattle.exchange.specs.Turns.{Ready, Turned};
 ghost use Rattle.exchange.specs.Types.{OnAbandon, OnPair};
 
+use events::signals;
+use fields::numbers;
+use lent::ends;
+use listings::maps;
 use model::Counts;
 use records::{Refusal, Settings};
 
@@ -47,7 +51,7 @@ fn pair(
     requires at_in_bounds { at + 6 ≤ length out.old }
     ensures { Turned (step_on (world_of c w.old v.old d.old b.old s eui.old nwk.old pairs) (OnPair x y) []) at out.old w.new v.new d.new b.new eui.new nwk.new told.new out.new result }
 {
-    match listings::maps::put_pair(eui, nwk, pairs, x, y) {
+    match maps::put_pair(eui, nwk, pairs, x, y) {
         None => {
             let wrote = answering::answer_refused(out, at, Refusal::NoPlace);
             Left {
@@ -88,12 +92,11 @@ fn abandon(
     requires at_in_bounds { at + 6 ≤ length out.old }
     ensures { Turned (step_on (world_of c w.old v.old d.old b.old s eui.old nwk.old pairs) OnAbandon []) at out.old w.new v.new d.new b.new eui.new nwk.new told.new out.new result }
 {
-    let mut list: [u64; 128] = [0; 128];
-    let x = lent::ends::abandon(c, w, v, d, b, &mut list);
+    let mut list = [0; 128];
+    let x = ends::abandon(c, w, v, d, b, &mut list);
     let wrote = answering::answer_abandoned(out, at, &list, x.listed);
-    let n = x.counts;
     Left {
-        counts: n,
+        counts: x.counts,
         settings: s,
         pairs,
         wrote,
@@ -104,14 +107,7 @@ fn abandon(
 pub fn is_own(kind: u8) -> bool
     ensures { result ≡ is_own kind }
 {
-    match kind {
-        1 => true,
-        17 => true,
-        18 => true,
-        19 => true,
-        20 => true,
-        _ => false,
-    }
+    matches!(kind, 1 | 17..=20)
 }
 
 // A record of a kind that is a call of the tables. It and the next are functions of their own, each small enough to be compiled into
@@ -139,11 +135,9 @@ pub fn call(
     ensures { Turned (step_on (world_of c w.old v.old d.old b.old s eui.old nwk.old pairs) (event_of kind body.now) (results_in body.now)) at out.old w.new v.new d.new b.new eui.new nwk.new told.new out.new result }
 {
     let x = steps::act(c, w, v, d, b, told, s, kind, body);
-    let a = x.answer;
-    let wrote = answering::answer(out, at, a, told, x.told);
-    let n = x.counts;
+    let wrote = answering::answer(out, at, x.answer, told, x.told);
     Left {
-        counts: n,
+        counts: x.counts,
         settings: s,
         pairs,
         wrote,
@@ -175,18 +169,18 @@ pub fn serve(
 {
     match kind {
         1 => {
-            let x = events::signals::settings_in(body);
+            let settings = signals::settings_in(body);
             let wrote = answering::answer_done(out, at);
             Left {
                 counts: c,
-                settings: x,
+                settings,
                 pairs,
                 wrote,
             }
         }
         17 => abandon(c, w, v, d, b, told, s, eui, nwk, pairs, out, at),
         18 => {
-            let t = lent::ends::next_wake(c, w, v, d, b);
+            let t = ends::next_wake(c, w, v, d, b);
             let wrote = answering::answer_wake(out, at, t);
             Left {
                 counts: c,
@@ -196,8 +190,8 @@ pub fn serve(
             }
         }
         19 => {
-            let x = fields::numbers::u64_at(body, 0);
-            let y = fields::numbers::u16_at(body, 8);
+            let x = numbers::u64_at(body, 0);
+            let y = numbers::u16_at(body, 8);
             pair(c, w, v, d, b, told, s, eui, nwk, pairs, out, at, x, y)
         }
         _ => {

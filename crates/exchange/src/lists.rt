@@ -10,6 +10,7 @@ ghost use Rattle.model.specs.Steps.{members_of};
 ghost use Rattle.exchange.specs.Answering.{Answering};
 ghost use Rattle.exchange.specs.Gathered.{Gathered, Few, Roomy, gathered_items, gathered_long, listed_items};
 
+use lent::lists;
 use lent::lists::Matched;
 use model::Counts;
 use sending::Book;
@@ -37,9 +38,7 @@ fn members(
     requires map_sound { MapSound eui.now nwk.now pairs }
     ensures { Filled 0 (members_of book (take pairs eui.now) (take pairs nwk.now) (live unicast_table w.now n)) set.old set.new result }
 {
-    let es = *eui;
-    let ns = *nwk;
-    match lent::lists::poll_addresses(w, n, book, &es[..pairs], &ns[..pairs], set) {
+    match lists::poll_addresses(w, n, book, &eui[..pairs], &nwk[..pairs], set) {
         Matched::MapBarred => 0,
         Matched::Members(m) => m,
     }
@@ -65,8 +64,8 @@ fn gather(
     requires map_sound { MapSound eui.now nwk.now pairs }
     ensures { Gathered (live unicast_table w.now c.unicasts) (live destination_table d.now c.held) (live broadcast_table b.now c.broadcasts) (take pairs eui.now) (take pairs nwk.now) ds.old ks.old ss.old ls.old ds.new ks.new ss.new ls.new result }
 {
-    let destinations = lent::lists::destinations(d, c.held, ds);
-    let keys = lent::lists::awaiting_quorum(b, c.broadcasts, ks);
+    let destinations = lists::destinations(d, c.held, ds);
+    let keys = lists::awaiting_quorum(b, c.broadcasts, ks);
     let shorts = members(w, c.unicasts, Book::Shorts, eui, nwk, pairs, ss);
     let longs = members(w, c.unicasts, Book::Longs, eui, nwk, pairs, ls);
     Sizes {
@@ -124,10 +123,10 @@ pub(crate) fn answer_lists(
     requires at_in_bounds { at + 6 ≤ length out.old }
     ensures { Answering (listed_items (live unicast_table w.now c.unicasts) (live destination_table d.now c.held) (live broadcast_table b.now c.broadcasts) (take pairs eui.now) (take pairs nwk.now)) at out.old out.new result }
 {
-    let mut ds: [u16; 16] = [0; 16];
-    let mut ks: [u64; 16] = [0; 16];
-    let mut ss: [u64; 32] = [0; 32];
-    let mut ls: [u64; 32] = [0; 32];
+    let mut ds = [0; 16];
+    let mut ks = [0; 16];
+    let mut ss = [0; 32];
+    let mut ls = [0; 32];
     let n = gather(
         c, w, d, b, eui, nwk, pairs, &mut ds, &mut ks, &mut ss, &mut ls,
     );

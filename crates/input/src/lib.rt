@@ -14,7 +14,8 @@ pub fn read_full<R: Read>(from: &mut R, buf: &mut [u8]) -> io::Result<usize>
     ensures bytes { IfOk result (λ n. Consumes (R.remaining from.old) (R.remaining from.new) (take n buf.new)) }
     ensures whole { IfOk result (λ n. n < length buf.new → IsAtEnd (R.remaining from.new)) }
 {
-    let mut done: usize = 0;
+    let mut done = 0;
+    // a `while`: each turn goes on by as many bytes as the reader gave
     while done < buf.len() {
         let n = from.read(&mut buf[done..])?;
         if n == 0 {

@@ -6,9 +6,10 @@ ghost use Rattle.model.specs.Calls.{unicast_first, flight_of, cast_of, lend_unic
 ghost use Rattle.model.specs.declared.Lender.TheVariants.{FromUnicasts, FromBroadcasts};
 ghost use Rattle.lending.specs.Choices.{chosen_of};
 
+use broadcasts::moves;
 use model::{Answer, Counts, Did, Lender, Transmit};
-use records::{Priority, Refusal, TxResult};
-use unicasts::Outcome;
+use records::{Refusal, TxResult, priorities};
+use unicasts::{Outcome, calls};
 
 // The send that goes to the radio, if one does.
 #[derive(Clone, Copy)]
@@ -22,30 +23,24 @@ pub(crate) enum Chosen {
 fn unicast_first(i: u32, p: u8, j: u32, q: u8) -> bool
     ensures { result ≡ unicast_first i p j q }
 {
-    if p == q {
-        return i < j;
-    }
-    q < p
+    if p == q { i < j } else { q < p }
 }
 
 // Which of the best queued of either table goes first: the one of higher priority, and of equals the older.
 fn choose(x: Option<(u32, Priority)>, y: Option<(u32, u8)>) -> Chosen
     ensures { result ≡ chosen_of x y }
 {
-    match x {
-        None => match y {
-            None => Chosen::NoSend,
-            Some((j, _)) => Chosen::OneBroadcast(j),
-        },
-        Some((i, p)) => match y {
-            None => Chosen::OneUnicast(i),
-            Some((j, q)) => {
-                if unicast_first(i, records::priorities::rank(p), j, q) {
-                    return Chosen::OneUnicast(i);
-                }
+    match (x, y) {
+        (None, None) => Chosen::NoSend,
+        (None, Some((j, _))) => Chosen::OneBroadcast(j),
+        (Some((i, _)), None) => Chosen::OneUnicast(i),
+        (Some((i, p)), Some((j, q))) => {
+            if unicast_first(i, priorities::rank(p), j, q) {
+                Chosen::OneUnicast(i)
+            } else {
                 Chosen::OneBroadcast(j)
             }
-        },
+        }
     }
 }
 
@@ -82,7 +77,7 @@ fn lend_unicast(
     requires { SoundTables c w.old v.old d.old b.old }
     ensures { Does (lend_unicast (lent_model c w.old v.old d.old b.old) id) told.old w.new v.new d.new b.new told.new result }
 {
-    let x = unicasts::calls::dequeue(w, c.unicasts, id);
+    let x = calls::dequeue(w, c.unicasts, id);
     doing::quiet(c, flight(id, x))
 }
 
@@ -99,7 +94,7 @@ fn lend_broadcast(
     requires { SoundTables c w.old v.old d.old b.old }
     ensures { Does (lend_broadcast (lent_model c w.old v.old d.old b.old) id) told.old w.new v.new d.new b.new told.new result }
 {
-    let x = broadcasts::moves::dequeue(b, c.broadcasts, id);
+    let x = moves::dequeue(b, c.broadcasts, id);
     doing::quiet(c, cast(id, x))
 }
 
@@ -146,7 +141,7 @@ fn report_unicast(
     requires clock_le_last_time { clock ≤ last_time }
     ensures { Does (report_in (lent_model c w.old v.old d.old b.old) FromUnicasts id frame x clock delay) told.old w.new v.new d.new b.new told.new result }
 {
-    match unicasts::calls::report(w, c.unicasts, told, 0, id, frame, x, clock, delay) {
+    match calls::report(w, c.unicasts, told, 0, id, frame, x, clock, delay) {
         Outcome::Refused(e) => doing::denied(c, e),
         Outcome::Done(n, m) => Did {
             counts: doing::with_unicasts(c, n),
@@ -174,7 +169,7 @@ fn report_broadcast(
     requires clock_le_last_time { clock ≤ last_time }
     ensures { Does (report_in (lent_model c w.old v.old d.old b.old) FromBroadcasts id frame x clock delay) told.old w.new v.new d.new b.new told.new result }
 {
-    match broadcasts::moves::report(b, c.broadcasts, told, 0, id, frame, x, clock, delay) {
+    match moves::report(b, c.broadcasts, told, 0, id, frame, x, clock, delay) {
         casting::Outcome::Refused(e) => doing::denied(c, e),
         casting::Outcome::Done(n) => Did {
             counts: doing::with_broadcasts(c, n.sends),
@@ -207,7 +202,7 @@ pub fn transmitted(
         return doing::denied(c, Refusal::TimeTooLate);
     }
     match from {
-        Lender::FromUnicasts => { report_unicast(c, w, v, d, b, told, id, frame, x, clock, delay) }
+        Lender::FromUnicasts => report_unicast(c, w, v, d, b, told, id, frame, x, clock, delay),
         Lender::FromBroadcasts => {
             report_broadcast(c, w, v, d, b, told, id, frame, x, clock, delay)
         }

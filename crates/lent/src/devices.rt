@@ -2,8 +2,10 @@
 ghost use Rattle.model.specs.Model.{lent_model, SoundTables, Does};
 ghost use Rattle.model.specs.Calls.{poll_of, ack_of, drop_of, delivered_of};
 
+use broadcasts::moves;
 use model::{Answer, Counts, Did};
 use records::{AckKey, QuorumKey, Refusal};
+use unicasts::calls;
 
 // A device polls, under either address: its oldest frame is queued. Answers whether there was one.
 pub fn poll(
@@ -23,7 +25,7 @@ pub fn poll(
     if doing::too_late(clock) {
         return doing::denied(c, Refusal::TimeTooLate);
     }
-    let found = unicasts::calls::poll(w, c.unicasts, eui, nwk, clock);
+    let found = calls::poll(w, c.unicasts, eui, nwk, clock);
     doing::quiet(c, Answer::Replied(found))
 }
 
@@ -40,7 +42,7 @@ pub fn aps_ack_received(
     requires { SoundTables c w.old v.old d.old b.old }
     ensures { Does (ack_of (lent_model c w.old v.old d.old b.old) key) told.old w.new v.new d.new b.new told.new result }
 {
-    let x = unicasts::calls::ack(w, c.unicasts, told, 0, key);
+    let x = calls::ack(w, c.unicasts, told, 0, key);
     Did {
         counts: doing::with_unicasts(c, x.sends),
         answer: Answer::Accepted,
@@ -62,7 +64,7 @@ pub fn drop_indirect_unicasts(
     requires { SoundTables c w.old v.old d.old b.old }
     ensures { Does (drop_of (lent_model c w.old v.old d.old b.old) eui nwk) told.old w.new v.new d.new b.new told.new result }
 {
-    let x = unicasts::calls::drop_indirect(w, c.unicasts, told, 0, eui, nwk);
+    let x = calls::drop_indirect(w, c.unicasts, told, 0, eui, nwk);
     Did {
         counts: doing::with_unicasts(c, x.sends),
         answer: Answer::Accepted,
@@ -83,7 +85,7 @@ pub fn broadcast_delivered(
     requires { SoundTables c w.old v.old d.old b.old }
     ensures { Does (delivered_of (lent_model c w.old v.old d.old b.old) key) told.old w.new v.new d.new b.new told.new result }
 {
-    let x = broadcasts::moves::delivered(b, c.broadcasts, told, 0, key);
+    let x = moves::delivered(b, c.broadcasts, told, 0, key);
     Did {
         counts: doing::with_broadcasts(c, x.sends),
         answer: Answer::Accepted,

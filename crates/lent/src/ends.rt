@@ -4,9 +4,12 @@ ghost use Rattle.model.specs.Model.{lent_model, SoundTables, Does};
 ghost use Rattle.model.specs.Calls.{soonest, wake_of, cancel_of, cancel_unrouted, tick_of};
 ghost use Rattle.doing.specs.Parts.{cancel_in, cancel_cast, AbandonedAll};
 
+use crate::lists;
+use broadcasts::moves;
 use model::{Abandoned, Answer, Counts, Did};
-use records::{Broadcast, Refusal, Unicast, Unrouted};
-use unicasts::Outcome;
+use records::{Broadcast, Refusal, Unicast, Unrouted, times};
+use scanning::asks;
+use unicasts::{Outcome, calls};
 use unrouted::Which;
 
 // A unicast is cancelled, a broadcast's copy too: alone.
@@ -22,7 +25,7 @@ fn cancel_unicast(
     requires { SoundTables c w.old v.old d.old b.old }
     ensures { Does (cancel_in (lent_model c w.old v.old d.old b.old) id) told.old w.new v.new d.new b.new told.new result }
 {
-    match unicasts::calls::cancel(w, c.unicasts, told, 0, id) {
+    match calls::cancel(w, c.unicasts, told, 0, id) {
         Outcome::Refused(e) => doing::denied(c, e),
         Outcome::Done(n, m) => Did {
             counts: doing::with_unicasts(c, n),
@@ -48,11 +51,8 @@ fn cancel_unrouted(
     let x = unrouted::cancel(v, c.unrouted, told, 0, id);
     Did {
         counts: Counts {
-            next_id: c.next_id,
-            unicasts: c.unicasts,
             unrouted: x.sends,
-            held: c.held,
-            broadcasts: c.broadcasts,
+            ..c
         },
         answer: Answer::Accepted,
         told: x.told,
@@ -72,23 +72,21 @@ fn cancel_broadcast(
     requires { SoundTables c w.old v.old d.old b.old }
     ensures { Does (cancel_cast (lent_model c w.old v.old d.old b.old) id) told.old w.new v.new d.new b.new told.new result }
 {
-    if scanning::asks::copy_in_radio(w, c.unicasts, id) {
+    if asks::copy_in_radio(w, c.unicasts, id) {
         return match tables::find::<Broadcast>(b, c.broadcasts, id) {
             None => doing::denied(c, Refusal::NoSuchSend),
             Some(_) => doing::denied(c, Refusal::InTheRadio),
         };
     }
-    match broadcasts::moves::cancel(b, c.broadcasts, told, 0, id) {
+    match moves::cancel(b, c.broadcasts, told, 0, id) {
         casting::Outcome::Refused(e) => doing::denied(c, e),
         casting::Outcome::Done(x) => {
-            let y = unicasts::calls::cancel_copies(w, c.unicasts, told, x.told, id);
+            let y = calls::cancel_copies(w, c.unicasts, told, x.told, id);
             Did {
                 counts: Counts {
-                    next_id: c.next_id,
                     unicasts: y.sends,
-                    unrouted: c.unrouted,
-                    held: c.held,
                     broadcasts: x.sends,
+                    ..c
                 },
                 answer: Answer::Accepted,
                 told: y.told,
@@ -135,16 +133,15 @@ pub fn tick(
     if doing::too_late(clock) {
         return doing::denied(c, Refusal::TimeTooLate);
     }
-    let x = unicasts::calls::tick(w, c.unicasts, told, 0, clock);
+    let x = calls::tick(w, c.unicasts, told, 0, clock);
     let y = unrouted::sweep(v, c.unrouted, told, x.told, Which::Lapsed(clock));
-    let z = broadcasts::moves::tick(b, c.broadcasts, told, y.told, clock);
+    let z = moves::tick(b, c.broadcasts, told, y.told, clock);
     Did {
         counts: Counts {
-            next_id: c.next_id,
             unicasts: x.sends,
             unrouted: y.sends,
-            held: c.held,
             broadcasts: z.sends,
+            ..c
         },
         answer: Answer::Accepted,
         told: z.told,
@@ -156,7 +153,7 @@ fn soonest_of(a: Option<u64>, o: Option<u64>) -> Option<u64>
 {
     match a {
         None => o,
-        Some(t) => records::times::sooner_of(t, o),
+        Some(t) => times::sooner_of(t, o),
     }
 }
 
@@ -171,7 +168,7 @@ pub fn next_wake(
     requires { SoundTables c w.now v.now d.now b.now }
     ensures { result ≡ wake_of (lent_model c w.now v.now d.now b.now) }
 {
-    let x = scanning::asks::next_wake(w, c.unicasts);
+    let x = asks::next_wake(w, c.unicasts);
     let y = unrouted::next_wake(v, c.unrouted);
     let z = broadcasts::asks::next_wake(b, c.broadcasts);
     soonest_of(x, soonest_of(y, z))
@@ -189,19 +186,19 @@ pub fn abandon(
     requires { SoundTables c w.old v.old d.old b.old }
     ensures { AbandonedAll (lent_model c w.old v.old d.old b.old) list.old w.new v.new d.new b.new list.new result }
 {
-    let x = crate::lists::list_unicasts(w, c.unicasts, list, 0);
-    let y = crate::lists::list_unrouted(v, c.unrouted, list, x);
-    let z = crate::lists::list_broadcasts(b, c.broadcasts, list, y);
-    unicasts::calls::abandon(w);
+    let x = lists::list_unicasts(w, c.unicasts, list, 0);
+    let y = lists::list_unrouted(v, c.unrouted, list, x);
+    let z = lists::list_broadcasts(b, c.broadcasts, list, y);
+    calls::abandon(w);
     unrouted::abandon(v, d);
-    broadcasts::moves::abandon(b);
+    moves::abandon(b);
     Abandoned {
         counts: Counts {
-            next_id: c.next_id,
             unicasts: 0,
             unrouted: 0,
             held: 0,
             broadcasts: 0,
+            ..c
         },
         listed: z,
     }

@@ -10,7 +10,9 @@ ghost use Rattle.model.specs.Steps.{members_of};
 ghost use Rattle.doing.specs.Parts.{Listed};
 ghost use Rattle.lent.specs.Fills.{Filled, Matching};
 
-use records::{Broadcast, Entry, QuorumKey, Unicast, Unrouted};
+use broadcasts::asks;
+use records::{Broadcast, Entry, Unicast, Unrouted, blanks};
+use scanning::sets;
 use sending::Book;
 
 // The slices are no address map, or how many members the set has.
@@ -26,8 +28,8 @@ fn list_one(list: &mut [u64; 128], at: usize, e: Entry)
     ensures { Listed at (e ∷ []) list.old list.new (at + 1) }
 {
     let k = at * 2;
-    list[k] = e.id as u64;
-    list[k + 1] = e.waiter as u64;
+    list[k] = u64::from(e.id);
+    list[k + 1] = u64::from(e.waiter);
 }
 
 // Lists the unicasts from place `at` on.
@@ -36,12 +38,9 @@ pub(crate) fn list_unicasts(w: &[u64; 320], n: usize, list: &mut [u64; 128], at:
     requires n_bound { at + n ≤ 64 }
     ensures { Listed at (map unicast_entry (live unicast_table w.now n)) list.old list.new result }
 {
-    let mut i: usize = 0;
-    while i < n {
+    for i in 0..n {
         let u = tables::load::<Unicast>(w, i);
-        let e = records::blanks::unicast_entry(u);
-        list_one(list, at + i, e);
-        i = i + 1;
+        list_one(list, at + i, blanks::unicast_entry(u));
     }
     at + n
 }
@@ -52,12 +51,9 @@ pub(crate) fn list_unrouted(w: &[u64; 112], n: usize, list: &mut [u64; 128], at:
     requires n_bound { at + n ≤ 64 }
     ensures { Listed at (map unrouted_entry (live unrouted_table w.now n)) list.old list.new result }
 {
-    let mut i: usize = 0;
-    while i < n {
+    for i in 0..n {
         let u = tables::load::<Unrouted>(w, i);
-        let e = records::blanks::unrouted_entry(u);
-        list_one(list, at + i, e);
-        i = i + 1;
+        list_one(list, at + i, blanks::unrouted_entry(u));
     }
     at + n
 }
@@ -68,12 +64,9 @@ pub(crate) fn list_broadcasts(w: &[u64; 112], n: usize, list: &mut [u64; 128], a
     requires n_bound { at + n ≤ 64 }
     ensures { Listed at (map broadcast_entry (live broadcast_table w.now n)) list.old list.new result }
 {
-    let mut i: usize = 0;
-    while i < n {
+    for i in 0..n {
         let u = tables::load::<Broadcast>(w, i);
-        let e = records::blanks::broadcast_entry(u);
-        list_one(list, at + i, e);
-        i = i + 1;
+        list_one(list, at + i, blanks::broadcast_entry(u));
     }
     at + n
 }
@@ -85,11 +78,8 @@ pub fn destinations(d: &[u64; 32], k: usize, out: &mut [u16; 16]) -> usize
     requires { Held destination_table d.now k }
     ensures { Filled 0 (map destination_address (live destination_table d.now k)) out.old out.new result }
 {
-    let mut i: usize = 0;
-    while i < k {
-        let x = unrouted::destination_at(d, i);
-        out[i] = x;
-        i = i + 1;
+    for i in 0..k {
+        out[i] = unrouted::destination_at(d, i);
     }
     k
 }
@@ -113,12 +103,9 @@ pub fn awaiting_quorum(b: &[u64; 112], n: usize, out: &mut [u64; 16]) -> usize
     requires { Held broadcast_table b.now n }
     ensures { Filled 0 (map quorum_word (awaited_of (live broadcast_table b.now n))) out.old out.new result }
 {
-    let mut m: usize = 0;
-    let mut i: usize = 0;
-    while i < n {
-        let x = broadcasts::asks::awaited_at(b, i);
-        m = put_awaited(out, m, x);
-        i = i + 1;
+    let mut m = 0;
+    for i in 0..n {
+        m = put_awaited(out, m, asks::awaited_at(b, i));
     }
     m
 }
@@ -136,20 +123,16 @@ fn members(
     ensures { Filled 0 (members_of book eui.now nwk.now (live unicast_table w.now n)) out.old out.new result }
 {
     let mut last = None;
-    let mut m: usize = 0;
-    while m < 32 {
-        match scanning::sets::next_member(w, n, book, eui, nwk, last) {
-            None => {
-                return m;
-            }
+    for m in 0..32 {
+        match sets::next_member(w, n, book, eui, nwk, last) {
+            None => return m,
             Some(x) => {
                 out[m] = x;
                 last = Some(x);
-                m = m + 1;
             }
         }
     }
-    m
+    32
 }
 
 // The members of a source-match set, refused where the slices are no address map.
@@ -164,9 +147,9 @@ pub fn poll_addresses(
     requires { Held unicast_table w.now n }
     ensures { Matching book eui.now nwk.now (live unicast_table w.now n) out.old out.new result }
 {
-    if scanning::sets::map_fits(eui, nwk) {
-        let m = members(w, n, book, eui, nwk, out);
-        return Matched::Members(m);
+    if sets::map_fits(eui, nwk) {
+        Matched::Members(members(w, n, book, eui, nwk, out))
+    } else {
+        Matched::MapBarred
     }
-    Matched::MapBarred
 }

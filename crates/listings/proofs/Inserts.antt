@@ -1,47 +1,38 @@
--- Numbers put into a list at a place: what is carried on moves the rest up by one; and writing a list's own front changes nothing. Assumes nothing.
-use Prim.Native.Nat.{ℕ, suc, ◌+◌, ◌≤◌, ◌<◌}
+-- Numbers put into a list at a place, the rest moved up by one; and writing a list's own front changes nothing. Assumes nothing.
+use Prim.Native.Nat.{ℕ, suc, ◌+◌, ◌-◌, ◌≤◌, ◌<◌}
 use native.Mathlib.Nat.{zero-add}
+use native.Mathlib.Numerals.{add-one}
 use native.Mathlib.Omega.{arith}
 use mathlib.Core.Path.{◌≡◌, refl, sym, ap, ap₂, ◌∙◌}
-use mathlib.Core.List.{List, ◌∷◌, ◌++◌}
-use lib.ListN.{length, take, drop, get_or, set, length-set, take-append-drop}
-use lib.Seq.{sets, sets-eq, slice, slice_empty, slice-cons, take-take, take-set-lt, drop-set-lt, length-take-le}
+use mathlib.Core.List.{List, [], ◌∷◌, ◌++◌}
+use lib.ListN.{length, take, drop, set, length-set, length-drop, take-append-drop}
+use lib.Seq.{sets, sets-eq, slice, take-take, take-set-lt, drop-set-lt, length-take-le}
+use Rattle.std.specs.List.{copy_within}
+use Rattle.std.proofs.lemmas.List.{set_comm}
+use Rattle.std.proofs.lemmas.Slice.{between_is}
 use Rattle.rows.proofs.Sets.{sets-append}
 
--- ---- carrying on
-
--- what is left of the moving up, from here, gives the whole
-pub record Carrying (n p x : ℕ) (w₀ w : List ℕ) (carry i : ℕ) : Type 0 where
-  pub low : i ≤ n
-  pub long : length w ≡ 32
-  pub goes : sets w i (carry ∷ slice i n w) ≡ sets w₀ p (x ∷ slice p n w₀)
-
-pub carry-start : (n p x : ℕ) (w : List ℕ) → p ≤ n → length w ≡ 32 → Carrying n p x w w x p
-carry-start n p x w h l = record { low = h; long = l; goes = refl }
+-- ---- moving up
 
 slice_set : (i n c : ℕ) (w : List ℕ) → i < n → slice (suc i) n (set w i c) ≡ slice (suc i) n w
 slice_set i n c w h = ap (drop (suc i)) (take-set-lt n w i c h) ∙ drop-set-lt (suc i) (take n w) i c (omega arith)
 
-module _ {n p x : ℕ} {w₀ w : List ℕ} {carry i : ℕ} (c : Carrying n p x w₀ w carry i) where
-  pub carry-turn : i < n → n ≤ 32 → Carrying n p x w₀ (set w i carry) (get_or w i 0) (i + 1)
-  carry-turn h b =
-      let l = c.long in
-      let v : List ℕ = set w i carry in
-      let e : i + 1 ≡ suc i = omega arith in
-      record {
-        low = omega arith;
-        long = length-set w i carry ∙ c.long;
-        goes = ap (λ (k : ℕ). sets v k (get_or w i 0 ∷ slice k n v)) e
-            ∙ ap (λ (l : List ℕ). sets v (suc i) (get_or w i 0 ∷ l)) (slice_set i n carry w h)
-            ∙ ap (sets v (suc i)) (sym (slice-cons i n w 0 h (omega arith)))
-            ∙ c.goes;
-      }
+module _ {A : Type 0} where
+  -- a store before a run of stores
+  set-sets : (l : List A) (o p : ℕ) (x : A) (vs : List A) → p < o → set (sets l o vs) p x ≡ sets (set l p x) o vs
+  set-sets l o p x [] h = refl
+  set-sets l o p x (v ∷ vs) h =
+      set-sets (set l o v) (suc o) p x vs (omega arith) ∙ ap (λ (w : List A). sets w (suc o) vs) (set_comm l o p v x (λ e. absurd (omega arith)))
 
-  pub carry-end : n ≤ i → set w n carry ≡ sets w₀ p (x ∷ slice p n w₀)
-  carry-end h =
-      let l = c.low in
-      let e : n ≡ i = omega arith in
-      ap (λ (s : List ℕ). sets w n (carry ∷ s)) (sym (slice_empty n w)) ∙ ap (λ (k : ℕ). sets w k (carry ∷ slice k n w)) e ∙ c.goes
+  -- what stands from p to n copied one up, and x at p
+  pub insert-is : (l : List A) (n p : ℕ) (x : A) → p ≤ n → n < length l → set (copy_within l p n (p + 1)) p x ≡ sets l p (x ∷ slice p n l)
+  insert-is l n p x h b =
+      let m : length (slice p n l) ≡ n - p = length-drop p (take n l) ∙ ap (λ (k : ℕ). k - p) (length-take-le n l (omega arith)) in
+      let c : copy_within l p n (p + 1) ≡ sets l (suc p) (slice p n l) =
+      ap₂ (λ (zs : List A) (k : ℕ). take (p + 1) l ++ zs ++ drop (p + 1 + k) l) (between_is l p n) (sym m)
+      ∙ sym (sets-eq (slice p n l) l (p + 1) (omega arith))
+      ∙ ap (λ (k : ℕ). sets l k (slice p n l)) (add-one p) in
+      ap (λ (w : List A). set w p x) c ∙ set-sets l (suc p) p x (slice p n l) (omega arith)
 
 -- ---- a list's own front
 

@@ -1,16 +1,20 @@
 -- The map with one more pair: its place, its order, and what each address is mapped to then. Assumes nothing.
-use Rattle.std.specs.Prelude.{Option, None, Some}
-use Prim.Native.Nat.{ℕ, suc, ◌+◌, ◌≤◌, ◌<◌}
+use Prim.Native.Nat.{ℕ, zero, suc, ◌+◌, ◌≤◌, ◌<◌}
 use native.Mathlib.Omega.{arith}
 use mathlib.Core.Path.{◌≡◌, refl, sym, ap, ap₂, ◌∙◌}
 use mathlib.Core.Bool.{Bool, true, false}
 use mathlib.Core.List.{List, [], ◌∷◌, ◌++◌}
-use lib.ListN.{length, take, drop, get_or, set, length-set, drop_of_length-le}
-use lib.Seq.{sets, length-sets, sets-eq, slice, drop-cons, get_or-take, length-take-le, take_at}
+use mathlib.Core.Logic.{⊎_elim}
+use lib.ListN.{length, take, drop, get_or, set, length-set}
+use lib.Seq.{sets, length-sets, sets-eq, slice, length-take-le, take_at}
 use lib.Dec.{ltb, eqb}
 use borrow.Author.Tests.{ltb-true, ltb-false, eqb-true, eqb-false, lt-ltb, le-ltb, eq-eqb, ne_eqb}
+use Rattle.std.specs.Prelude.{Ok, Err, Option, None, Some}
+use Rattle.std.specs.Ordering.{nat_cmp}
+use Rattle.std.specs.List.Sorted.{IsBinarySearchResult}
+use Rattle.std.proofs.lemmas.List.Sorted.{searched}
 use Rattle.records.specs.Pick.{pick}
-use Rattle.records.proofs.Cases.{never}
+use Rattle.records.proofs.Cases.{never, eq-or-ne}
 use Rattle.sending.specs.Members.{rises_after, rises_all, map_fits, mapped_in}
 use Rattle.listings.specs.Maps.{place_in, is_there, keys_with, shorts_with, MapSound, map_full, pairs_after, PairPut, Remapped}
 use Rattle.listings.proofs.Inserts.{front_same, front-on, front-set}
@@ -27,22 +31,12 @@ place-low x (k ∷ ks) = by-test (ltb k x) refl (place-low x ks)
         rw e (omega arith)
     by-test false e ih = rw e (omega arith)
 
--- the loop's reading, by what is left
-pub place-on : (x : ℕ) (ks : List ℕ) (i : ℕ) → i < length ks → get_or ks i 0 < x → i + 1 + place_in x (drop (i + 1) ks) ≡ i + place_in x (drop i ks)
-place-on x ks i h l =
-    let e : suc i ≡ i + 1 = omega arith in
-    let f : place_in x (drop i ks) ≡ suc (place_in x (drop (i + 1) ks)) =
-    ap (place_in x) (drop-cons ks i 0 h)
-    ∙ ap (λ (b : Bool). pick b (suc (place_in x (drop (suc i) ks))) 0) (lt-ltb (get_or ks i 0) x l)
-    ∙ ap (λ (j : ℕ). suc (place_in x (drop j ks))) e in
-    omega arith
-
-pub place_here : (x : ℕ) (ks : List ℕ) (i : ℕ) → i < length ks → x ≤ get_or ks i 0 → place_in x (drop i ks) ≡ 0
-place_here x ks i h l =
-    ap (place_in x) (drop-cons ks i 0 h) ∙ ap (λ (b : Bool). pick b (suc (place_in x (drop (suc i) ks))) 0) (le-ltb (get_or ks i 0) x l)
-
-pub place_end : (x : ℕ) (ks : List ℕ) (i : ℕ) → length ks ≤ i → place_in x (drop i ks) ≡ 0
-place_end x ks i h = ap (place_in x) (drop_of_length-le ks h)
+-- after all that are below x and before one that is not
+pub place-is : (x : ℕ) (ks : List ℕ) (p : ℕ) → p ≤ length ks → ((k : ℕ) → k < p → get_or ks k 0 < x) → (p < length ks → x ≤ get_or ks p 0) → place_in x ks ≡ p
+place-is x [] p h b a = omega arith
+place-is x (k ∷ ks) zero h b a = rw (le-ltb k x (a (omega arith))) refl
+place-is x (k ∷ ks) (suc p) h b a =
+    rw (lt-ltb k x (b 0 (omega arith))) (ap suc (place-is x ks p (omega arith) (λ i l. b (suc i) (omega arith)) (λ l. a (omega arith))))
 
 -- whether x stands there
 pub there-at : (x : ℕ) (ks : List ℕ) → place_in x ks < length ks → is_there x ks ≡ eqb (get_or ks (place_in x ks) 0) x
@@ -55,17 +49,13 @@ there-at x (k ∷ ks) h = by-test (ltb k x) refl (λ g. there-at x ks g)
         rw e (ih (omega arith))
     by-test false e ih = rw e refl
 
-pub there-past : (x : ℕ) (ks : List ℕ) → length ks ≤ place_in x ks → is_there x ks ≡ false
-there-past x [] h = refl
-there-past x (k ∷ ks) h = by-test (ltb k x) refl (λ g. there-past x ks g)
-  where
-    by-test : (b : Bool) → ltb k x ≡ b → (length ks ≤ place_in x ks → is_there x ks ≡ false) → is_there x (k ∷ ks) ≡ false
-    by-test true e ih =
-        let g : suc (length ks) ≤ suc (place_in x ks) = rw e at h in
-        rw e (ih (omega arith))
-    by-test false e ih =
-        let g : suc (length ks) ≤ 0 = rw e at h in
-        absurd (omega arith)
+pub missing : (x : ℕ) (ks : List ℕ) (p : ℕ) → p ≤ length ks → ((k : ℕ) → k < p → get_or ks k 0 < x) → (p < length ks → x < get_or ks p 0) → is_there x ks ≡ false
+missing x [] p h b a = refl
+missing x (k ∷ ks) zero h b a =
+    let l : x < k = a (omega arith) in
+    rw (le-ltb k x (omega arith)) (ne_eqb k x (λ e. absurd (omega arith)))
+missing x (k ∷ ks) (suc p) h b a =
+    rw (lt-ltb k x (b 0 (omega arith))) (missing x ks p (omega arith) (λ i l. b (suc i) (omega arith)) (λ l. a (omega arith)))
 
 -- ---- an address that is there
 
@@ -136,44 +126,38 @@ keys-longer x (k ∷ ks) h = by-test (ltb k x) refl (λ g. keys-longer x ks g)
         let f : eqb k x ≡ false = rw e at h in
         rw (e, f) refl
 
--- ---- the loop's reading of an array
-
-module _ (x : ℕ) (es : List ℕ) (n i : ℕ) (h : n ≤ length es) where
-  long : length (take n es) ≡ n
-  long = length-take-le n es h
-
-  pub read-on : i < n → get_or es i 0 < x → i + 1 + place_in x (drop (i + 1) (take n es)) ≡ i + place_in x (drop i (take n es))
-  read-on l b =
-      let e = long in
-      let f : get_or (take n es) i 0 ≡ get_or es i 0 = get_or-take n es i 0 l in
-      place-on x (take n es) i (omega arith) (omega arith)
-
-  pub read_here : i < n → x ≤ get_or es i 0 → place_in x (drop i (take n es)) ≡ 0
-  read_here l b =
-      let e = long in
-      let f : get_or (take n es) i 0 ≡ get_or es i 0 = get_or-take n es i 0 l in
-      place_here x (take n es) i (omega arith) (omega arith)
-
-  pub read-end : n ≤ i → place_in x (drop i (take n es)) ≡ 0
-  read-end l =
-      let e = long in
-      place_end x (take n es) i (omega arith)
-
-  pub read-there : i ≡ place_in x (take n es) → i < n → eqb (get_or es i 0) x ≡ is_there x (take n es)
-  read-there p l =
-      let e = long in
-      ap (λ (v : ℕ). eqb v x) (sym (get_or-take n es i 0 l) ∙ ap (λ (k : ℕ). get_or (take n es) k 0) p) ∙ sym (there-at x (take n es) (omega arith))
-
-  pub read_past : i ≡ place_in x (take n es) → n ≤ i → false ≡ is_there x (take n es)
-  read_past p l =
-      let e = long in
-      sym (there-past x (take n es) (omega arith))
-
 -- ---- the order
 
 pick-both : (b t : Bool) → pick b t false ≡ true → (b ≡ true) × (t ≡ true)
 pick-both true t h = (refl, h)
 pick-both false t h = (never h, never h)
+
+above-first : (q : ℕ) (ks : List ℕ) → rises_after q ks ≡ true → (j : ℕ) → j < length ks → q < get_or ks j 0
+above-first q [] h j l = absurd (omega arith)
+above-first q (k ∷ ks) h zero l = ltb-true q k (pick-both (ltb q k) (rises_after k ks) h).0
+above-first q (k ∷ ks) h (suc j) l =
+    let t = pick-both (ltb q k) (rises_after k ks) h in
+    let a : q < k = ltb-true q k t.0 in
+    let b : k < get_or ks j 0 = above-first k ks t.1 j (omega arith) in
+    omega arith
+
+rises_rest : (k : ℕ) (ks : List ℕ) → rises_after k ks ≡ true → rises_all ks ≡ true
+rises_rest k [] h = refl
+rises_rest k (j ∷ ks) h = (pick-both (ltb k j) (rises_after j ks) h).1
+
+-- the later of two is the higher
+pub strictly : (ks : List ℕ) → rises_all ks ≡ true → (i j : ℕ) → i < j → j < length ks → get_or ks i 0 < get_or ks j 0
+strictly [] h i j m l = absurd (omega arith)
+strictly (k ∷ ks) h i zero m l = absurd (omega arith)
+strictly (k ∷ ks) h zero (suc j) m l = above-first k ks h j (omega arith)
+strictly (k ∷ ks) h (suc i) (suc j) m l = strictly ks (rises_rest k ks h) i j (omega arith) (omega arith)
+
+rising : (ks : List ℕ) → rises_all ks ≡ true → (i j : ℕ) → i ≤ j → j < length ks → get_or ks i 0 ≤ get_or ks j 0
+rising ks h i j m l =
+    ⊎_elim
+    (λ (e : i ≡ j). let f : get_or ks i 0 ≡ get_or ks j 0 = ap (λ (k : ℕ). get_or ks k 0) e in omega arith)
+    (λ n. let f = strictly ks h i j (omega (arith, n)) l in omega arith)
+    (eq-or-ne i j)
 
 pub rises-after : (q x : ℕ) (ks : List ℕ) → q < x → rises_after q ks ≡ true → rises_after q (keys_with x ks) ≡ true
 rises-after q x [] l h = rw (lt-ltb q x l) refl
@@ -275,17 +259,28 @@ module _ {n : ℕ} {es ns : List ℕ} (s : MapSound es ns n) where
       let l = place-low x (take n es) in
       omega arith
 
-  pub place-there : (x p : ℕ) → p ≡ place_in x (take n es) → is_there x (take n es) ≡ true → p < 32
-  place-there x p e t =
-      let c = keys-count in
-      let f = s.few in
-      let l = there-low x (take n es) t in
-      omega arith
-
   pub below-room : (n ≡ 32 → ⊥) → n < 32
   below-room h =
       let f = s.few in
       omega (arith, h)
+
+  -- what the search of them found
+  pub found : (x p : ℕ) → IsBinarySearchResult (λ y. nat_cmp y x) (take n es) (Ok p) → (p ≡ place_in x (take n es)) × (is_there x (take n es) ≡ true)
+  found x p h =
+      let ks : List ℕ = take n es in
+      let t = searched ks x (Ok p) h (rising ks s.rises) in
+      let l : p < length ks = t.0 in
+      let e : get_or ks p 0 ≡ x = t.1 in
+      let f : place_in x ks ≡ p = place-is x ks p (omega arith) (λ k m. let g = strictly ks s.rises k p m l in omega arith) (λ m. omega arith) in
+      let g : get_or ks (place_in x ks) 0 ≡ x = ap (λ (k : ℕ). get_or ks k 0) f ∙ e in
+      (sym f, there-at x ks (omega arith) ∙ eq-eqb (get_or ks (place_in x ks) 0) x g)
+
+  pub missed : (x p : ℕ) → IsBinarySearchResult (λ y. nat_cmp y x) (take n es) (Err p) → (p ≡ place_in x (take n es)) × (is_there x (take n es) ≡ false)
+  missed x p h =
+      let ks : List ℕ = take n es in
+      let t = searched ks x (Err p) h (rising ks s.rises) in
+      let f : place_in x ks ≡ p = place-is x ks p t.0 t.1 (λ m. let g = t.2 p (omega arith) m in omega arith) in
+      (sym f, missing x ks p t.0 t.1 (λ m. t.2 p (omega arith) m))
 
 module _ (x y : ℕ) {n : ℕ} {es ns : List ℕ} (s : MapSound es ns n) where
   -- an address that is there

@@ -82,11 +82,21 @@ pub map-count : (f : ℕ → Item) (xs : List ℕ) (n : ℕ) → n ≤ length xs
 map-count f xs n h = sym (length-map (take n xs) f ∙ length-take-le n xs h)
 
 -- which
-pub map-item : (f : ℕ → Item) (xs : List ℕ) (n i : ℕ) → n ≤ length xs → i < n → get_or (map f (take n xs)) i Done ≡ f (get_or xs i 0)
-map-item f [] n i h l = absurd (omega arith)
-map-item f (x ∷ xs) zero i h l = absurd (omega arith)
-map-item f (x ∷ xs) (suc n) zero h l = refl
-map-item f (x ∷ xs) (suc n) (suc i) h l = map-item f xs n i (omega arith) (omega arith)
+map-item : (f : ℕ → Item) (ks : List ℕ) (i : ℕ) → i < length ks → get_or (map f ks) i Done ≡ f (get_or ks i 0)
+map-item f [] i l = absurd (omega arith)
+map-item f (k ∷ ks) zero l = refl
+map-item f (k ∷ ks) (suc i) l = map-item f ks i (omega arith)
+
+-- the next number's item fits, and writing it leaves what is behind it
+module _ (f : ℕ → Item) (xs : List ℕ) {n at₀ : ℕ} {out₀ out : List ℕ} {at i : ℕ} (p : Putting (map f (take n xs)) n at₀ out₀ out at i) (l : i < length (take n xs)) where
+  below : i < n
+  below = omega (arith, p.count, length-map (take n xs) f)
+
+  pub number-room : at₀ + length (items_bytes (map f (take n xs))) ≤ length out₀ → at + length (item_bytes (f (get_or (take n xs) i 0))) ≤ length out
+  number-room b = put-room p below (map-item f (take n xs) i l) b
+
+  pub number-turn : {out' : List ℕ} {r : ℕ} → Written at (item_bytes (f (get_or (take n xs) i 0))) out out' r → Putting (map f (take n xs)) n at₀ out₀ out' r (i + 1)
+  number-turn w = put-turn p below (map-item f (take n xs) i l) w
 
 -- how long, where every item has k bytes
 pub map-long : (f : ℕ → Item) (k : ℕ) → ((x : ℕ) → length (item_bytes (f x)) ≡ k) → (xs : List ℕ) (n : ℕ) → n ≤ length xs

@@ -7,6 +7,7 @@ ghost use Rattle.answers.specs.Bytes.{Written};
 ghost use Rattle.answers.specs.Items.{items_bytes};
 ghost use Rattle.listings.specs.Listings.{short_items, long_items, destination_items, key_items, abandoned_items, wake_items};
 
+use answers::parts;
 
 pub mod maps;
 
@@ -18,11 +19,8 @@ pub fn put_shorts(out: &mut [u8], at: usize, xs: &[u64; 32], n: usize) -> usize
     ensures { Written at (items_bytes (short_items xs.now n)) out.old out.new result }
 {
     let mut next = at;
-    let mut i: usize = 0;
-    while i < n {
-        let x = xs[i];
-        next = answers::put_short(out, next, (x % 65536) as u16);
-        i = i + 1;
+    for x in &xs[..n] {
+        next = answers::put_short(out, next, (*x % 65536) as u16);
     }
     next
 }
@@ -35,11 +33,8 @@ pub fn put_longs(out: &mut [u8], at: usize, xs: &[u64; 32], n: usize) -> usize
     ensures { Written at (items_bytes (long_items xs.now n)) out.old out.new result }
 {
     let mut next = at;
-    let mut i: usize = 0;
-    while i < n {
-        let x = xs[i];
-        next = answers::put_extended(out, next, x);
-        i = i + 1;
+    for x in &xs[..n] {
+        next = answers::put_extended(out, next, *x);
     }
     next
 }
@@ -52,11 +47,8 @@ pub fn put_destinations(out: &mut [u8], at: usize, xs: &[u16; 16], n: usize) -> 
     ensures { Written at (items_bytes (destination_items xs.now n)) out.old out.new result }
 {
     let mut next = at;
-    let mut i: usize = 0;
-    while i < n {
-        let x = xs[i];
-        next = answers::put_destination(out, next, x);
-        i = i + 1;
+    for x in &xs[..n] {
+        next = answers::put_destination(out, next, *x);
     }
     next
 }
@@ -69,12 +61,8 @@ pub fn put_keys(out: &mut [u8], at: usize, xs: &[u64; 16], n: usize) -> usize
     ensures { Written at (items_bytes (key_items xs.now n)) out.old out.new result }
 {
     let mut next = at;
-    let mut i: usize = 0;
-    while i < n {
-        let x = xs[i];
-        let k = codes::quorum_of(x);
-        next = answers::parts::put_key(out, next, k);
-        i = i + 1;
+    for x in &xs[..n] {
+        next = parts::put_key(out, next, codes::quorum_of(*x));
     }
     next
 }
@@ -87,13 +75,10 @@ pub fn put_abandoned(out: &mut [u8], at: usize, xs: &[u64; 128], n: usize) -> us
     ensures { Written at (items_bytes (abandoned_items xs.now n)) out.old out.new result }
 {
     let mut next = at;
-    let mut i: usize = 0;
-    while i < n {
-        let k = i * 2;
-        let id = (xs[k] % 4294967296) as u32;
-        let waiter = (xs[k + 1] % 4294967296) as u32;
+    for i in 0..n {
+        let id = (xs[i * 2] % 4294967296) as u32;
+        let waiter = (xs[i * 2 + 1] % 4294967296) as u32;
         next = answers::put_abandonment(out, next, id, waiter);
-        i = i + 1;
     }
     next
 }

@@ -7,6 +7,7 @@ ghost use Rattle.answers.specs.Bytes.{Written};
 ghost use Rattle.answers.specs.Items.{items_bytes, actions_bytes};
 ghost use Rattle.replies.specs.Replies.{acts_of, denies, answer_items, reply_bytes};
 
+use answers::parts;
 use model::Answer;
 
 // How many bytes the first n actions of the buffer take.
@@ -14,12 +15,9 @@ pub fn actions_length(told: &[u64; 560], n: usize) -> usize
     requires { n ≤ 112 }
     ensures { result ≡ length (actions_bytes (acts_of told.now n)) }
 {
-    let mut total: usize = 0;
-    let mut i: usize = 0;
-    while i < n {
-        let a = actions::action_at(told, i);
-        total = total + answers::action_length(a);
-        i = i + 1;
+    let mut total = 0;
+    for i in 0..n {
+        total += answers::action_length(actions::action_at(told, i));
     }
     total
 }
@@ -30,11 +28,8 @@ pub fn put_actions(out: &mut [u8], at: usize, told: &[u64; 560], n: usize) -> us
     ensures { Written at (actions_bytes (acts_of told.now n)) out.old out.new result }
 {
     let mut next = at;
-    let mut i: usize = 0;
-    while i < n {
-        let a = actions::action_at(told, i);
-        next = answers::put_action(out, next, a);
-        i = i + 1;
+    for i in 0..n {
+        next = answers::put_action(out, next, actions::action_at(told, i));
     }
     next
 }
@@ -42,26 +37,17 @@ pub fn put_actions(out: &mut [u8], at: usize, told: &[u64; 560], n: usize) -> us
 fn refuses(a: Answer) -> bool
     ensures { result ≡ denies a }
 {
-    match a {
-        Answer::Denied(_) => true,
-        Answer::Accepted => false,
-        Answer::Issued(_) => false,
-        Answer::Replied(_) => false,
-        Answer::NothingQueued => false,
-        Answer::InFlight(_, _, _) => false,
-    }
+    matches!(a, Answer::Denied(_))
 }
 
 fn answer_length(a: Answer) -> usize
     ensures { result ≡ length (items_bytes (answer_items a)) }
 {
     match a {
-        Answer::Denied(_) => 2,
-        Answer::Accepted => 0,
+        Answer::Accepted | Answer::NothingQueued => 0,
+        Answer::Denied(_) | Answer::Replied(_) => 2,
         Answer::Issued(_) => 5,
-        Answer::Replied(_) => 2,
-        Answer::NothingQueued => 0,
-        Answer::InFlight(_, _, _) => 13,
+        Answer::InFlight(..) => 13,
     }
 }
 
@@ -71,11 +57,10 @@ fn put_answer(out: &mut [u8], at: usize, a: Answer) -> usize
 {
     match a {
         Answer::Denied(x) => answers::put_refused(out, at, x),
-        Answer::Accepted => at,
+        Answer::Accepted | Answer::NothingQueued => at,
         Answer::Issued(id) => answers::put_id(out, at, id),
         Answer::Replied(b) => answers::put_yes_no(out, at, b),
-        Answer::NothingQueued => at,
-        Answer::InFlight(id, frame, t) => answers::parts::put_flight(out, at, id, frame, t),
+        Answer::InFlight(id, frame, t) => parts::put_flight(out, at, id, frame, t),
     }
 }
 
@@ -97,9 +82,8 @@ pub fn put_reply(out: &mut [u8], at: usize, a: Answer, told: &[u64; 560], n: usi
     requires { (n ≤ 112) × (at + length (reply_bytes a (acts_of told.now n)) ≤ length out.old) }
     ensures { Written at (reply_bytes a (acts_of told.now n)) out.old out.new result }
 {
-    let alone = refuses(a);
     let second = put_answer(out, at, a);
-    if alone {
+    if refuses(a) {
         return second;
     }
     let third = put_actions(out, second, told, n);

@@ -17,9 +17,9 @@ use Rattle.exchange.proofs.Answers.{answering-as}
 use Rattle.exchange.proofs.Worlds.{turned-still, lists-are}
 use Rattle.exchange.proofs.serve.Goals as goal
 
-pub settings_in-x-requires : goal.settings_in-x-requires
+pub settings_in-settings-requires : goal.settings_in-settings-requires
 unfolding body_of
-settings_in-x-requires c =
+settings_in-settings-requires c =
     enough 1 10 c.requires.body_len c.in-1.is refl
 
 pub u64_at-x-requires : goal.u64_at-x-requires
@@ -36,7 +36,7 @@ u16_at-y-requires c =
 pub returns-in-1 : goal.returns-in-1
 unfolding event_of settings_of
 returns-in-1 c =
-    rw c.in-1.is (turned-still c.requires.ready c.args.s (ap (λ (x : Settings). world_of c.args.c c.args.w.now c.args.v.now c.args.d.now c.args.b.now x c.args.eui.now c.args.nwk.now c.args.pairs) c.settings_in-x.ensures) c.answer_done-wrote.ensures)
+    rw c.in-1.is (turned-still c.requires.ready c.args.s (ap (λ (x : Settings). world_of c.args.c c.args.w.now c.args.v.now c.args.d.now c.args.b.now x c.args.eui.now c.args.nwk.now c.args.pairs) c.settings_in-settings.ensures) c.answer_done-wrote.ensures)
 
 pub returns-in-17 : goal.returns-in-17
 unfolding event_of

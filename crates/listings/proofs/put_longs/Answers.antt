@@ -1,14 +1,9 @@
-use native.Mathlib.Omega.{arith}
 use Rattle.listings.specs.Listings.{long_item}
-use Rattle.listings.proofs.Puttings.{put-turn, put-room, map-item}
+use Rattle.listings.proofs.Puttings.{number-room, number-turn}
 use Rattle.listings.proofs.put_longs.Goals as goal
 
 pub put_extended-next-requires : goal.put_extended-next-requires
-put_extended-next-requires c =
-    let e = map-item long_item c.args.xs.now c.args.n c.loop-i.i (omega (arith, c.requires)) (omega arith) in
-    put-room c.loop-i.invariant (omega arith) e c.requires.n_in_bounds_2
+put_extended-next-requires c = number-room long_item c.args.xs.now c.loop-x.invariant c.loop-x-test.true c.requires.n_in_bounds_2
 
-pub loop-i-preserved : goal.loop-i-preserved
-loop-i-preserved c =
-    let e = map-item long_item c.args.xs.now c.args.n c.loop-i.i (omega (arith, c.requires)) (omega arith) in
-    put-turn c.loop-i.invariant (omega arith) e c.put_extended-next.ensures
+pub loop-x-preserved : goal.loop-x-preserved
+loop-x-preserved c = number-turn long_item c.args.xs.now c.loop-x.invariant c.loop-x-test.true c.put_extended-next.ensures

@@ -1,14 +1,9 @@
-use native.Mathlib.Omega.{arith}
 use Rattle.listings.specs.Listings.{short_item}
-use Rattle.listings.proofs.Puttings.{put-turn, put-room, map-item}
+use Rattle.listings.proofs.Puttings.{number-room, number-turn}
 use Rattle.listings.proofs.put_shorts.Goals as goal
 
 pub put_short-next-requires : goal.put_short-next-requires
-put_short-next-requires c =
-    let e = map-item short_item c.args.xs.now c.args.n c.loop-i.i (omega (arith, c.requires)) (omega arith) in
-    put-room c.loop-i.invariant (omega arith) e c.requires.n_in_bounds_2
+put_short-next-requires c = number-room short_item c.args.xs.now c.loop-x.invariant c.loop-x-test.true c.requires.n_in_bounds_2
 
-pub loop-i-preserved : goal.loop-i-preserved
-loop-i-preserved c =
-    let e = map-item short_item c.args.xs.now c.args.n c.loop-i.i (omega (arith, c.requires)) (omega arith) in
-    put-turn c.loop-i.invariant (omega arith) e c.put_short-next.ensures
+pub loop-x-preserved : goal.loop-x-preserved
+loop-x-preserved c = number-turn short_item c.args.xs.now c.loop-x.invariant c.loop-x-test.true c.put_short-next.ensures

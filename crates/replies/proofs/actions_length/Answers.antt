@@ -11,8 +11,8 @@ pub loop-i-preserved : goal.loop-i-preserved
 loop-i-preserved c =
     let l = c.loop-i in
     let a = c.args in
-    let s = action-short c.action_at-a.result in
+    let s = action-short c.action_at.result in
     let e = c.action_length-total.ensures in
-    let f = ap (λ (x : Action). length (action_bytes x)) c.action_at-a.ensures in
+    let f = ap (λ (x : Action). length (action_bytes x)) c.action_at.ensures in
     let g = left-length a.told.now a.n l.i (omega arith) in
-    (omega arith, omega arith, omega arith)
+    (omega arith, omega arith)

@@ -1,10 +1,6 @@
 -- Writing what is left of the actions, from here, gives the whole.
-use Prim.Native.Nat.{◌-◌}
 use Rattle.replies.proofs.Parts.{Putting}
 use Rattle.replies.proofs.put_actions.Given as goal
 
 abbrev pub invariant-loop-i : goal.invariant-loop-i
 invariant-loop-i l = Putting l.told l.n l.at l.initial.out l.out l.next l.i
-
-abbrev pub decreases-loop-i : goal.decreases-loop-i
-decreases-loop-i l = l.n - l.i

@@ -9,7 +9,7 @@ use Rattle.replies.proofs.put_reply.Goals as goal
 pub put_actions-third-requires : goal.put_actions-third-requires
 put_actions-third-requires c =
     let a = c.args in
-    let g = reply-long a.a (acts_of a.told.now a.n) (sym c.refuses-alone.ensures ∙ c.if-alone.false) in
+    let g = reply-long a.a (acts_of a.told.now a.n) (sym c.refuses.ensures ∙ c.if-refuses.false) in
     let p = c.requires.1 in
     let l = c.put_answer-second.auto.out in
     let n = c.put_answer-second.ensures.next in
@@ -18,7 +18,7 @@ put_actions-third-requires c =
 pub put_done-requires : goal.put_done-requires
 put_done-requires c =
     let a = c.args in
-    let g = reply-long a.a (acts_of a.told.now a.n) (sym c.refuses-alone.ensures ∙ c.if-alone.false) in
+    let g = reply-long a.a (acts_of a.told.now a.n) (sym c.refuses.ensures ∙ c.if-refuses.false) in
     let p = c.requires.1 in
     let l = c.put_answer-second.auto.out in
     let n = c.put_answer-second.ensures.next in
@@ -29,6 +29,6 @@ put_done-requires c =
 pub returns : goal.returns
 returns c =
     let a = c.args in
-    let e = sym c.refuses-alone.ensures ∙ c.if-alone.false in
+    let e = sym c.refuses.ensures ∙ c.if-refuses.false in
     written_as (sym (reply-whole a.a (acts_of a.told.now a.n) e))
     (written-append c.put_answer-second.ensures (written-append c.put_actions-third.ensures c.put_done.ensures))

@@ -3,10 +3,10 @@ use native.Mathlib.Omega.{arith}
 use Rattle.admitting.proofs.Routings.{route-free, route-some, route-turn, route-end}
 use Rattle.admitting.proofs.routes.route_all.Goals as goal
 
-pub returns-in-None : goal.returns-in-None
-returns-in-None c =
+pub unreachable-requires : goal.unreachable-requires
+unreachable-requires c =
     let at = c.loop-i in
-    absurd (route-some at.invariant c.requires.routable.there (omega arith) c.take.ensures c.in-None.is)
+    route-some at.invariant c.requires.routable.there (omega arith) c.take.ensures c.in_default.is
 
 pub loop-i-preserved : goal.loop-i-preserved
 loop-i-preserved c =

@@ -2,6 +2,7 @@ use native.Mathlib.Omega.{arith}
 use mathlib.Core.Path.{◌≡◌, sym, ◌∙◌}
 use mathlib.Core.Bool.{false}
 use lib.ListN.{length}
+use Rattle.std.proofs.Common.{length-take-le}
 use Rattle.model.specs.Calls.{late}
 use Rattle.doing.specs.Types.{NoPlace}
 use Rattle.doing.proofs.Doings.{does-as, does-deny}
@@ -9,9 +10,17 @@ use Rattle.admitting.proofs.Routings.{left-few, route-full, route-goes}
 use borrow.Author.Rules.{rules}
 use Rattle.admitting.proofs.routes.route_unicasts.Goals as goal
 
-pub successes-requires : goal.successes-requires
-successes-requires c =
-    left-few c.requires.unrouted c.args.clock c.args.destination (c.if-n-left_to.false ∙ c.left_to.ensures)
+pub slice_bounds-results-end : goal.slice_bounds-results-end
+slice_bounds-results-end c =
+    let l : length c.args.results ≡ 16 = search (c.well_formed.1.1.1.1.1.1.1.1.1.0, rules) in
+    let few = left-few c.requires.unrouted c.args.clock c.args.destination (c.if-n-left_to.false ∙ c.left_to.ensures) in
+    omega arith
+
+pub slice_bounds-successes-end : goal.slice_bounds-successes-end
+slice_bounds-successes-end c =
+    let l : length c.args.results ≡ 16 = search (c.well_formed.1.1.1.1.1.1.1.1.1.0, rules) in
+    let few = left-few c.requires.unrouted c.args.clock c.args.destination (c.if-n-left_to.false ∙ c.left_to.ensures) in
+    sym (length-take-le c.args.n c.args.results (omega arith))
 
 pub returns-then-c-successes : goal.returns-then-c-successes
 returns-then-c-successes c =

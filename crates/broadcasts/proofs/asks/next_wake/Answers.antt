@@ -1,15 +1,15 @@
 use Rattle.std.specs.Prelude.{None}
-use Rattle.casting.specs.Rules.{wake_head, wake_step}
-use Rattle.casting.specs.Types.{BroadcastHead}
-use Rattle.rows.proofs.Promises.{fold-turn}
-use mathlib.Core.Path.{ap, ◌∙◌}
-use native.Mathlib.Omega.{arith}
+use mathlib.Core.Path.{◌∙◌}
+use Rattle.std.proofs.Common.{rules, tests, arith}
+use Rattle.std.proofs.lemmas.Iterator.Consumers.{fold_from_yields_List}
+use Rattle.rows.proofs.Chains.{YieldsList-from_rev_range, fold-places}
+use Rattle.casting.specs.Rules.{wake_step}
+use Rattle.casting.proofs.Scans.{row_at}
 use Rattle.broadcasts.proofs.asks.next_wake.Goals as goal
 
-pub loop-i-preserved : goal.loop-i-preserved
-loop-i-preserved c =
-    let at = c.loop-i in (
-      omega arith,
-      c.wake-wake.ensures ∙ ap (λ (h : BroadcastHead). wake_head h at.wake) c.head-h.ensures
-          ∙ fold-turn c.requires wake_step None at.i at.wake (omega arith) (omega arith) at.invariant.1,
-    )
+pub returns : goal.returns
+returns c =
+    let a = c.args in
+    fold_from_yields_List _ (λ o k. wake_step (row_at a.w.now k) o) None _ c.fold.ensures.ran
+    (YieldsList-from_rev_range 0 a.n a.n c.rev.ensures.source (omega arith)) (λ o x b q k. search (rules, tests))
+    ∙ fold-places c.requires wake_step None

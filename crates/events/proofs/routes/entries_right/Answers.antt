@@ -1,27 +1,13 @@
-use mathlib.Core.Bool.{true, false}
-use mathlib.Core.Path.{◌≡◌, refl, sym, ◌∙◌}
-use Rattle.events.specs.Routes.{entry_right}
-use native.Mathlib.Omega.{arith}
-use Rattle.events.proofs.Sixteen.{still, stops}
+use mathlib.Core.Path.{refl, ◌∙◌}
 use borrow.Author.Rules.{rules}
+use borrow.Author.Tests.{tests}
+use Rattle.std.proofs.lemmas.Iterator.{YieldsList-from_range}
+use Rattle.std.proofs.lemmas.Iterator.Search.{all_from_yields_List}
+use Rattle.events.specs.Routes.{entry_right}
+use Rattle.events.proofs.Sixteen.{each-right}
 use Rattle.events.proofs.routes.entries_right.Goals as goal
 
-pub loop-i-init : goal.loop-i-init
-loop-i-init c = (search rules, refl)
-
-pub returns-then-not-entry_right : goal.returns-then-not-entry_right
-returns-then-not-entry_right c = let at = c.loop-i in
-    let a = c.args in
-    let wrong : entry_right a.b.now a.count at.i ≡ false = sym c.entry_right.ensures ∙ c.if-not-entry_right.true in
-    sym (stops a.b.now a.count at.i _ (omega arith) at.invariant.1 wrong)
-
-pub loop-i-preserved : goal.loop-i-preserved
-loop-i-preserved c = let at = c.loop-i in
-    let a = c.args in
-    let good : entry_right a.b.now a.count at.i ≡ true = sym c.entry_right.ensures ∙ c.if-not-entry_right.false in
-    (omega arith, still a.b.now a.count at.i _ (omega arith) at.invariant.1 good)
-
 pub returns : goal.returns
-returns c = let at = c.loop-i in
-    let past : at.i ≡ 16 = omega arith in
-    rw past at at.invariant.1
+returns c =
+    all_from_yields_List (entry_right c.args.b.now c.args.count) _ _ _ c.all.ensures.ran (YieldsList-from_range 0 16 16 refl refl) (λ x b q k. search (rules, tests))
+    ∙ each-right c.args.b.now c.args.count 0 16

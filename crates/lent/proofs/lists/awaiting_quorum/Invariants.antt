@@ -1,4 +1,4 @@
-use Prim.Native.Nat.{◌-◌, ◌≤◌}
+use Prim.Native.Nat.{◌≤◌}
 use mathlib.Core.List.{map}
 use lib.ListN.{drop}
 use Rattle.codes.specs.Codes.{quorum_word}
@@ -10,8 +10,5 @@ use Rattle.lent.proofs.lists.awaiting_quorum.Given as goal
 
 abbrev pub invariant-loop-i : goal.invariant-loop-i
 invariant-loop-i l =
-    (l.i ≤ l.n)
-    × ((l.m ≤ l.i) × Filling (map quorum_word (awaited_of (drop l.i (live broadcast_table l.b l.n)))) (map quorum_word (awaited_of (live broadcast_table l.b l.n))) l.initial.out l.out l.m)
-
-abbrev pub decreases-loop-i : goal.decreases-loop-i
-decreases-loop-i l = l.n - l.i
+    (l.m ≤ l.i)
+    × Filling (map quorum_word (awaited_of (drop l.i (live broadcast_table l.b l.n)))) (map quorum_word (awaited_of (live broadcast_table l.b l.n))) l.initial.out l.out l.m

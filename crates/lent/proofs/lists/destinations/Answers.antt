@@ -11,8 +11,6 @@ use Rattle.lent.proofs.lists.destinations.Goals as goal
 pub loop-i-preserved : goal.loop-i-preserved
 loop-i-preserved c =
     let at = c.loop-i in
-    let x = c.destination_at-x.result in (
-      omega arith,
-      fill-turn at.invariant.1 (x ∷ []) (map destination_address (drop (at.i + 1) (live destination_table c.args.d.now c.args.k)))
-          (left-cons c.requires destination_address at.i (omega arith) c.destination_at-x.ensures) (fill_one at.out at.i x),
-    )
+    let x = c.destination_at.result in
+    fill-turn at.invariant (x ∷ []) (map destination_address (drop (at.i + 1) (live destination_table c.args.d.now c.args.k)))
+    (left-cons c.requires destination_address at.i (omega arith) c.destination_at.ensures) (fill_one at.out at.i x)

@@ -1,4 +1,3 @@
-use Prim.Native.Nat.{◌-◌, ◌≤◌}
 use mathlib.Core.List.{map}
 use lib.ListN.{drop}
 use Rattle.records.specs.Records.{destination_address}
@@ -9,7 +8,4 @@ use Rattle.lent.proofs.lists.destinations.Given as goal
 
 abbrev pub invariant-loop-i : goal.invariant-loop-i
 invariant-loop-i l =
-    (l.i ≤ l.k) × Filling (map destination_address (drop l.i (live destination_table l.d l.k))) (map destination_address (live destination_table l.d l.k)) l.initial.out l.out l.i
-
-abbrev pub decreases-loop-i : goal.decreases-loop-i
-decreases-loop-i l = l.k - l.i
+    Filling (map destination_address (drop l.i (live destination_table l.d l.k))) (map destination_address (live destination_table l.d l.k)) l.initial.out l.out l.i

@@ -27,4 +27,4 @@ loop-m-preserved c =
 pub returns : goal.returns
 returns c =
     let at = c.loop-m in
-    fill_end at.invariant refl (omega (arith, at.invariant.many, members-few c.args.book c.args.eui.now c.args.nwk.now (live unicast_table c.args.w.now c.args.n), held-length c.requires, c.requires.within))
+    fill_end at.invariant (omega arith) (omega (arith, at.invariant.many, members-few c.args.book c.args.eui.now c.args.nwk.now (live unicast_table c.args.w.now c.args.n), held-length c.requires, c.requires.within))

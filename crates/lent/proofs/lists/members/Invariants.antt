@@ -1,4 +1,3 @@
-use Prim.Native.Nat.{◌-◌}
 use Rattle.rows.specs.Tables.{live}
 use Rattle.tables.specs.Layouts.{unicast_table}
 use Rattle.model.specs.Steps.{members_of}
@@ -8,6 +7,3 @@ use Rattle.lent.proofs.lists.members.Given as goal
 abbrev pub invariant-loop-m : goal.invariant-loop-m
 invariant-loop-m l =
     Filling (after l.last (members_of l.book l.eui l.nwk (live unicast_table l.w l.n))) (members_of l.book l.eui l.nwk (live unicast_table l.w l.n)) l.initial.out l.out l.m
-
-abbrev pub decreases-loop-m : goal.decreases-loop-m
-decreases-loop-m l = 32 - l.m
