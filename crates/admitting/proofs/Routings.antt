@@ -1,5 +1,5 @@
 -- What taking a route does, send by send: of the sends to a destination the first goes, then the next, until none is left. Assumes nothing.
-use Rattle.std.specs.Prelude.{Option, None, Some}
+use Rattle.std.specs.Prelude.{Option, None, Some, Ok, Err}
 use Prim.Native.Nat.{ℕ, ◌+◌, ◌-◌, ◌≤◌, ◌<◌}
 use native.Mathlib.Omega.{arith}
 use mathlib.Core.Path.{◌≡◌, refl, sym, ap, ap₂, ◌∙◌}
@@ -27,7 +27,7 @@ use Rattle.model.specs.Calls.{late, only, reached, entering, failing, routing, r
 use Rattle.model.proofs.Fews.{sweep-one}
 use Rattle.model.proofs.Routings.{left-count}
 use Rattle.model.proofs.Routes.{entering-length}
-use Rattle.doing.specs.Types.{NoPlace, Accepted, Lapsed, Settings, Unicast, Unrouted, Resolved, Reached, Unreached, Action, Counts}
+use Rattle.doing.specs.Types.{NoPlace, Accepted, Lapsed, Settings, Unicast, Unrouted, Resolved, Action, Counts}
 use Rattle.admitting.specs.declared.routes.Entered.{Entered}
 use Rattle.admitting.specs.declared.routes.Gone.{Gone}
 use Rattle.admitting.specs.Routes.{RoutedOne, RoutedAll, Routable}
@@ -101,16 +101,16 @@ nothing-none (Some v) e = let z : ◌≡◌ {A = ℕ} 0 1 = cc in absurd (omega 
 
 entering-one : (s : Settings) (now : ℕ) (u : Unrouted) (ts : List Unrouted) (x : Resolved) (rs : List Resolved) (us : List Unicast)
     → entering s now ts rs (entering s now (u ∷ []) (x ∷ []) us) ≡ entering s now (u ∷ ts) (x ∷ rs) us
-entering-one s now u ts (Reached hop a) rs us = refl
-entering-one s now u ts (Unreached c) rs us = refl
+entering-one s now u ts (Ok (hop, a)) rs us = refl
+entering-one s now u ts (Err c) rs us = refl
 
 failing-one : (u : Unrouted) (ts : List Unrouted) (x : Resolved) (rs : List Resolved) → failing (u ∷ ts) (x ∷ rs) ≡ failing (u ∷ []) (x ∷ []) ++ failing ts rs
-failing-one u ts (Reached hop a) rs = refl
-failing-one u ts (Unreached c) rs = refl
+failing-one u ts (Ok (hop, a)) rs = refl
+failing-one u ts (Err c) rs = refl
 
 failing-few : (u : Unrouted) (x : Resolved) → length (failing (u ∷ []) (x ∷ [])) ≤ 1
-failing-few u (Reached hop a) = omega arith
-failing-few u (Unreached c) = omega arith
+failing-few u (Ok (hop, a)) = omega arith
+failing-few u (Err c) = omega arith
 
 module _ (s : Settings) (d now : ℕ) (results : List Resolved) (many : ℕ) (ws₀ : List ℕ) (n₀ : ℕ) (vs₀ : List ℕ) (k₀ : ℕ) (buf₀ : List ℕ) (m₀ : ℕ) where
   -- i results are used: what is still to do gives the whole, there is a place for each success that is left, and place to tell the rest

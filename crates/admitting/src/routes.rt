@@ -82,7 +82,7 @@ fn successes(results: &[Resolved]) -> usize
 {
     results
         .iter()
-        .filter(|x| matches!(x, Resolved::Reached(..)))
+        .filter(|x| x.is_ok())
         .count()
 }
 
@@ -124,12 +124,12 @@ fn route_one(
     ensures { RoutedOne s clock u x w.old n told.old m w.new told.new result }
 {
     match x {
-        Resolved::Reached(hop, a) => {
+        Ok((hop, a)) => {
             let y = routed_as(s, clock, u, hop, a);
             let sends = enqueues::enter_unicast(w, n, y);
             Entered { sends, told: m }
         }
-        Resolved::Unreached(code) => {
+        Err(code) => {
             let e = blanks::unrouted_entry(u);
             let told = actions::settle(told, m, e, Verdict::Code(code), None);
             Entered { sends: n, told }

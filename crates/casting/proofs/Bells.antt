@@ -1,10 +1,10 @@
 -- The times on either side of which a rule decides, for a passive-ack broadcast with any id, handles, priority and key: by computation. Assumes nothing.
-use Rattle.std.specs.Prelude.{None, Some}
+use Rattle.std.specs.Prelude.{None, Some, Ok, Err}
 use Prim.Native.Nat.{ℕ}
 use mathlib.Core.Path.{◌≡◌, refl}
 use mathlib.Core.Bool.{true, false}
 use Rattle.rows.specs.Moves.Turn.{Keeps, HandsOff, Settles}
-use Rattle.casting.specs.Types.{Priority, QuorumKey, PassiveAck, Idle, CopyQueued, Broadcast, Sent, Failed, HandoffTimeout, BroadcastQuorumNotReached, Success, Failure, Code}
+use Rattle.casting.specs.Types.{Priority, QuorumKey, PassiveAck, Idle, CopyQueued, Broadcast, HandoffTimeout, BroadcastQuorumNotReached, Success, Failure, Code}
 use Rattle.casting.specs.Rules.{remade, admitted_of, lent, tick_turn, report_turn, delivered_turn, ready}
 
 module _ (id frame waiter : ℕ) (p : Priority) (k : QuorumKey) where
@@ -35,7 +35,7 @@ module _ (id frame waiter : ℕ) (p : Priority) (k : QuorumKey) where
   abbrev lost : ℕ → Broadcast
   lost code = remade fresh (PassiveAck k 0 510) Idle false false (Some code)
 
-  pub keeps-the-error : (code : ℕ) → report_turn (Failed code) 10 500 (lent queued) ≡ Keeps (lost code)
+  pub keeps-the-error : (code : ℕ) → report_turn (Err code) 10 500 (lent queued) ≡ Keeps (lost code)
   keeps-the-error code = refl
 
   pub nothing-before : (code : ℕ) → tick_turn 509 (lost code) ≡ Keeps (lost code)
@@ -48,7 +48,7 @@ module _ (id frame waiter : ℕ) (p : Priority) (k : QuorumKey) where
   abbrev handed : Broadcast
   handed = remade fresh (PassiveAck k 0 510) Idle true false None
 
-  pub hands-off : report_turn Sent 10 500 (lent queued) ≡ HandsOff handed
+  pub hands-off : report_turn (Ok tt) 10 500 (lent queued) ≡ HandsOff handed
   hands-off = refl
 
   pub no-quorum : tick_turn 510 handed ≡ Settles true (Failure BroadcastQuorumNotReached) None
@@ -64,5 +64,5 @@ module _ (id frame waiter : ℕ) (p : Priority) (k : QuorumKey) where
   pub marks : delivered_turn (lent queued) ≡ Keeps heard
   marks = refl
 
-  pub then-success : report_turn Sent 10 500 heard ≡ Settles true Success None
+  pub then-success : report_turn (Ok tt) 10 500 heard ≡ Settles true Success None
   then-success = refl

@@ -1,4 +1,5 @@
 -- Each rule keeps the entry of a broadcast that stays, and so each call loses no entry and makes none up. Assumes nothing.
+use Rattle.std.specs.Prelude.{Ok, Err}
 use Prim.Native.Nat.{ℕ, ◌+◌, ◌-◌}
 use mathlib.Core.Path.{◌≡◌, refl}
 use mathlib.Core.Bool.{Bool, not, ◌&&◌, ◌||◌}
@@ -10,7 +11,7 @@ use Rattle.records.proofs.Cases.{either}
 use Rattle.rows.specs.Moves.{Turn, each, at_first, count, each_told, at_first_told, has_id, settled_of}
 use Rattle.rows.specs.Moves.{Same}
 use Rattle.rows.proofs.Promises.{entries, each-count, first_count}
-use Rattle.casting.specs.Types.{Schedule, Once, PassiveAck, FixedInterval, CopyState, Idle, CopyQueued, CopyTransmitting, Broadcast, QuorumKey, TxResult, Sent, Failed}
+use Rattle.casting.specs.Types.{Schedule, Once, PassiveAck, FixedInterval, CopyState, Idle, CopyQueued, CopyTransmitting, Broadcast, QuorumKey, TxResult}
 use Rattle.casting.specs.Rules.{remade, in_radio, keyed, dequeue_turn, cancel_turn, repeat_turn, report_by, report_turn, delivered_turn, lapse_turn, due_turn, idle_turn, tick_by, tick_turn}
 
 abbrev Stays : Broadcast → Turn Broadcast → Type 0
@@ -23,8 +24,8 @@ pub same-cancel : (b : Broadcast) → Stays b (cancel_turn b)
 same-cancel b = tt
 
 same-repeat : (b : Broadcast) (s : Schedule) (x : TxResult) → Stays b (repeat_turn b s x)
-same-repeat b s Sent = either (Stays b) b.quorum_heard tt (either (Stays b) b.handed_off refl refl)
-same-repeat b s (Failed c) = either (Stays b) (b.quorum_heard && b.handed_off) tt refl
+same-repeat b s (Ok _) = either (Stays b) b.quorum_heard tt (either (Stays b) b.handed_off refl refl)
+same-repeat b s (Err c) = either (Stays b) (b.quorum_heard && b.handed_off) tt refl
 
 pub same-report : (x : TxResult) (now delay : ℕ) (b : Broadcast) → Stays b (report_turn x now delay b)
 same-report x now delay b = go b.schedule

@@ -1,12 +1,12 @@
 -- The rules keep every broadcast sane (specs/Claims), so that two verdicts are never asked: the end of a once that was handed off, and the last error of
 -- one that has none. Assumes nothing.
-use Rattle.std.specs.Prelude.{Option, None, Some}
+use Rattle.std.specs.Prelude.{Option, None, Some, Ok, Err}
 use Prim.Native.Nat.{ℕ, ◌+◌, ◌-◌}
 use mathlib.Core.Path.{◌≡◌, refl, sym, ◌∙◌}
 use mathlib.Core.Bool.{Bool, true, false, not, ◌&&◌, ◌||◌}
 use lib.Dec.{leb, eqb}
 use Rattle.records.proofs.Cases.{either, never}
-use Rattle.casting.specs.Types.{Priority, Schedule, Once, PassiveAck, FixedInterval, CopyState, Idle, CopyQueued, CopyTransmitting, Broadcast, TxResult, Sent, Failed}
+use Rattle.casting.specs.Types.{Priority, Schedule, Once, PassiveAck, FixedInterval, CopyState, Idle, CopyQueued, CopyTransmitting, Broadcast, TxResult}
 use Rattle.casting.specs.Rules.{remade, admitted_of, no_copies, in_radio, dequeue_turn, repeat_turn, report_by, report_turn, delivered_turn, lapse_turn, due_turn, idle_turn, tick_by, tick_turn}
 use Rattle.casting.specs.Claims.{is_once, has_error, Sane, Leaves}
 
@@ -22,11 +22,11 @@ module _ (b : Broadcast) (sane : Sane b) where
   sane-delivered = either Leaves (in_radio b.copy || not b.handed_off) (record { once = sane.once; error = sane.error }) tt
 
   sane-repeat : (s : Schedule) → is_once s ≡ false → (x : TxResult) → Leaves (repeat_turn b s x)
-  sane-repeat s e Sent =
+  sane-repeat s e (Ok _) =
       either Leaves b.quorum_heard tt
       (either Leaves b.handed_off (record { once = λ o. never (sym e ∙ o); error = λ i n h. never (sym h) })
       (record { once = λ o. never (sym e ∙ o); error = λ i n h. never (sym h) }))
-  sane-repeat s e (Failed c) =
+  sane-repeat s e (Err c) =
       either Leaves (b.quorum_heard && b.handed_off) tt (record { once = λ o. never (sym e ∙ o); error = λ i n h. refl })
 
   pub sane-report : (x : TxResult) (now delay : ℕ) → Leaves (report_turn x now delay b)

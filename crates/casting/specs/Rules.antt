@@ -1,5 +1,5 @@
 -- 01's rules of broadcasts, on one broadcast and on the list of them.
-use Rattle.std.specs.Prelude.{ℕ, ◌+◌, ◌-◌, Bool, true, false, not, ◌&&◌, ◌||◌, List, [], ◌∷◌, ltb, leb, eqb, Option, None, Some}
+use Rattle.std.specs.Prelude.{ℕ, ◌+◌, ◌-◌, Bool, true, false, not, ◌&&◌, ◌||◌, List, [], ◌∷◌, ltb, leb, eqb, Option, None, Some, Ok, Err}
 use Rattle.records.specs.Pick.{pick}
 use Rattle.records.specs.Priorities.{rank_of}
 use Rattle.records.specs.Records.{broadcast_id}
@@ -9,7 +9,7 @@ use Rattle.rows.specs.Lists.{fold, lookup}
 use Rattle.rows.specs.Moves.{Turn}
 use Rattle.rows.specs.Moves.Turn.{Keeps, HandsOff, Settles}
 use Rattle.tables.specs.Layouts.{broadcast_head}
-use Rattle.casting.specs.Types.{Priority, QuorumKey, Schedule, Once, PassiveAck, FixedInterval, CopyState, Idle, CopyQueued, CopyTransmitting, Broadcast, TxResult, Sent, Failed, HandoffTimeout, BroadcastQuorumNotReached, Cancelled, Verdict, Success, Failure, Code, Refusal, NoSuchSend, InTheRadio, NotInTheRadio, OtherFrame, BroadcastHead, TurnB, KeepsB, HandsOffB, SettlesB, Outcome, Refused, Done}
+use Rattle.casting.specs.Types.{Priority, QuorumKey, Schedule, Once, PassiveAck, FixedInterval, CopyState, Idle, CopyQueued, CopyTransmitting, Broadcast, TxResult, HandoffTimeout, BroadcastQuorumNotReached, Cancelled, Verdict, Success, Failure, Code, Refusal, NoSuchSend, InTheRadio, NotInTheRadio, OtherFrame, BroadcastHead, TurnB, KeepsB, HandsOffB, SettlesB, Outcome, Refused, Done}
 
 -- the turn that an answer says: a broadcast never has a failed hop
 abbrev pub turn_b : TurnB → Turn Broadcast
@@ -84,17 +84,17 @@ abbrev pub cancel_turn : Broadcast → Turn Broadcast
 cancel_turn b = Settles b.handed_off (Failure Cancelled) None
 
 abbrev pub result_verdict : TxResult → Verdict
-result_verdict Sent = Success
-result_verdict (Failed c) = Code c
+result_verdict (Ok _) = Success
+result_verdict (Err c) = Code c
 
 -- a report on a repeating one, whose schedule goes on as s: a success is a handoff, told the first time; a failure is kept as the last error; with
 -- quorum heard and a copy handed off it is over
 abbrev pub repeat_turn : Broadcast → Schedule → TxResult → Turn Broadcast
-repeat_turn b s Sent =
+repeat_turn b s (Ok _) =
     pick b.quorum_heard (Settles true Success None)
     (pick b.handed_off (Keeps (remade b s Idle true b.quorum_heard b.last_error))
     (HandsOff (remade b s Idle true b.quorum_heard b.last_error)))
-repeat_turn b s (Failed c) =
+repeat_turn b s (Err c) =
     pick (b.quorum_heard && b.handed_off) (Settles true Success None)
     (Keeps (remade b s Idle b.handed_off b.quorum_heard (Some c)))
 

@@ -6,8 +6,7 @@ pub use Rattle.records.specs.declared.Schedule.TheVariants.{Once, PassiveAck, Fi
 pub use Rattle.records.specs.declared.CopyState.{CopyState}
 pub use Rattle.records.specs.declared.CopyState.TheVariants.{Idle, CopyQueued, CopyTransmitting}
 pub use Rattle.records.specs.declared.Broadcast.{Broadcast}
-pub use Rattle.records.specs.declared.TxResult.{TxResult}
-pub use Rattle.records.specs.declared.TxResult.TheVariants.{Sent, Failed}
+pub use Rattle.records.specs.Types.{TxResult}
 pub use Rattle.records.specs.declared.SendFailure.TheVariants.{HandoffTimeout, BroadcastQuorumNotReached, Cancelled}
 pub use Rattle.records.specs.declared.Verdict.{Verdict}
 pub use Rattle.records.specs.declared.Verdict.TheVariants.{Success, Failure, Code}

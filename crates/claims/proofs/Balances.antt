@@ -1,6 +1,6 @@
 -- Every call balances: under any test on id, waiter and frame, what was live and what is issued is what stays live, what is settled and what is listed.
 -- And an id that is issued is the next one, which is then one higher. Assumes sound tables.
-use Rattle.std.specs.Prelude.{Option, None, Some}
+use Rattle.std.specs.Prelude.{Option, None, Some, Ok, Err}
 use Prim.Native.Nat.{ℕ, suc, ◌+◌, ◌-◌, ◌≤◌}
 use native.Mathlib.Omega.{arith}
 use mathlib.Core.Path.{◌≡◌, refl, ap}
@@ -32,8 +32,7 @@ use Rattle.model.specs.Types.{Unicast, Unrouted, Broadcast, Settings, Refusal, T
 use Rattle.model.specs.declared.NewUnicast.{NewUnicast}
 use Rattle.model.specs.declared.NewUnrouted.{NewUnrouted}
 use Rattle.model.specs.declared.NewBroadcast.{NewBroadcast}
-use Rattle.model.specs.declared.Resolved.{Resolved}
-use Rattle.model.specs.declared.Resolved.TheVariants.{Reached, Unreached}
+use Rattle.model.specs.Types.{Resolved}
 use Rattle.model.specs.declared.Lender.{Lender}
 use Rattle.model.specs.declared.Lender.TheVariants.{FromUnicasts, FromBroadcasts}
 use Rattle.model.specs.declared.Answer.{Answer}
@@ -99,7 +98,7 @@ module _ (s : Settings) (now : ℕ) (p : Entry → Bool) where
       → entries unrouted_entry p ts + entries unicast_entry p us ≡ entries unicast_entry p (entering s now ts rs us) + count p (settled_of (failing ts rs))
   entering-count [] rs us l h = omega arith
   entering-count (u ∷ ts) [] us l h = absurd (omega arith)
-  entering-count (u ∷ ts) (Reached hop a ∷ rs) us l h =
+  entering-count (u ∷ ts) (Ok (hop, a) ∷ rs) us l h =
       let v : Unicast = routed s now u hop a in
       let one : bit (eqb u.id u.id) ≡ 1 = ap bit (eq-eqb u.id u.id refl) in
       let new : count (has_id unicast_entry u.id) us ≡ 0 = omega (arith, h u.id) in
@@ -108,7 +107,7 @@ module _ (s : Settings) (now : ℕ) (p : Entry → Bool) where
         entering-count ts rs (insert_by unicast_id v us) (omega arith) (λ i. omega (arith, h i, insert-fewer unicast_entry i v us)),
         insert-count unicast_entry p v us new,
       )
-  entering-count (u ∷ ts) (Unreached c ∷ rs) us l h = omega (arith, entering-count ts rs us (omega arith) (λ i. omega (arith, h i)))
+  entering-count (u ∷ ts) (Err c ∷ rs) us l h = omega (arith, entering-count ts rs us (omega arith) (λ i. omega (arith, h i)))
 
 -- what is met one by one is not longer than what it meets
 each2-length : {A B : Type 0} (P : A → B → Type 0) (xs : List A) (ys : List B) → Each2 P xs ys → length xs ≤ length ys

@@ -1,5 +1,5 @@
 -- The table of specs/Bell holds, by computation: only that a frame, a device and a key is the same as itself is no computation. Assumes nothing.
-use Rattle.std.specs.Prelude.{Option, None, Some}
+use Rattle.std.specs.Prelude.{Option, None, Some, Ok, Err}
 use Prim.Native.Nat.{ℕ}
 use mathlib.Core.Path.{◌≡◌, refl, ap, ◌∙◌}
 use mathlib.Core.Bool.{Bool, true, false}
@@ -19,7 +19,7 @@ use Rattle.model.specs.Model.{Model, fresh_of, with_unicasts, with_broadcasts, d
 use Rattle.model.specs.Calls.{late, unless, turn_unicast, turn_broadcast}
 use Rattle.model.specs.Steps.{Call, Outcome, acts, step_of, after}
 use Rattle.model.specs.Steps.Call.{Dequeue, Transmitted, Poll, AckReceived, Delivered, Tick}
-use Rattle.claims.specs.CausesTypes.{Absent, Short, AckKey, QuorumKey, ApsAck, Unicast, Broadcast, TxResult, Sent, Failed, Refusal, TimeTooLate, OtherFrame, FromUnicasts, FromBroadcasts, Replied}
+use Rattle.claims.specs.CausesTypes.{Absent, Short, AckKey, QuorumKey, ApsAck, Unicast, Broadcast, TxResult, Refusal, TimeTooLate, OtherFrame, FromUnicasts, FromBroadcasts, Replied}
 use Rattle.claims.specs.Bell.{Given, Holds, EitherSide, enqueue, passive, reported, broadcast_reported, c1, c2, c3, c4, c5, c6, c7, c8, c9}
 
 -- ---- a call whose test holds of the first send of its table
@@ -139,7 +139,7 @@ module _ (x : Given) where
       let e : step_of m (AckReceived x.key) ≡ o = ack-hits m x.key same_key in (
         both_of e,
         (
-          both_of (ap (λ (o : Outcome). step_of o.model (reported x 0 (Failed x.code) 10 x.delay)) e ∙ report-hits o.model 0 x.frame (Failed x.code) 10 x.delay refl same-frame),
+          both_of (ap (λ (o : Outcome). step_of o.model (reported x 0 (Err x.code) 10 x.delay)) e ∙ report-hits o.model 0 x.frame (Err x.code) 10 x.delay refl same-frame),
           tt,
         ),
       )
@@ -150,11 +150,11 @@ module _ (x : Given) where
       let o : Outcome = polled_to m m.unicasts in
       let e : step_of m (Poll None (Some x.device) 0) ≡ o = poll-hits m None (Some x.device) 0 refl same-device in
       let lent : Model = (step_of o.model (Dequeue 0)).model in
-      let failed : (now : ℕ) → Call = λ now. reported x 0 (Failed x.code) now x.delay in
-      let back : Outcome = acts (turn_unicast lent (has_id unicast_entry 0) (uni.report_turn (Failed x.code) 7679 x.delay)) in
+      let failed : (now : ℕ) → Call = λ now. reported x 0 (Err x.code) now x.delay in
+      let back : Outcome = acts (turn_unicast lent (has_id unicast_entry 0) (uni.report_turn (Err x.code) 7679 x.delay)) in
       let before : step_of (step_of (step_of m (Poll None (Some x.device) 0)).model (Dequeue 0)).model (failed 7679) ≡ back =
       ap (λ (o : Outcome). step_of (step_of o.model (Dequeue 0)).model (failed 7679)) e
-      ∙ report-hits lent 0 x.frame (Failed x.code) 7679 x.delay refl same-frame in (
+      ∙ report-hits lent 0 x.frame (Err x.code) 7679 x.delay refl same-frame in (
         both_of before,
         (
           both_of
@@ -163,7 +163,7 @@ module _ (x : Given) where
           (
             both_of
                 (ap (λ (o : Outcome). step_of (step_of o.model (Dequeue 0)).model (failed 7680)) e
-                ∙ report-hits lent 0 x.frame (Failed x.code) 7680 x.delay refl same-frame),
+                ∙ report-hits lent 0 x.frame (Err x.code) 7680 x.delay refl same-frame),
             tt,
           ),
         ),
@@ -172,7 +172,7 @@ module _ (x : Given) where
   holds5 : All Holds (c5 x)
   holds5 =
       let m : Model = after (fresh_of 0) (enqueue x x.priority x.confirm Absent ∷ Dequeue 0 ∷ []) in
-      let e = report-hits m 0 x.frame (Failed x.code) 100 50 refl same-frame in (
+      let e = report-hits m 0 x.frame (Err x.code) 100 50 refl same-frame in (
         both_of (ap (λ (o : Outcome). step_of o.model (Tick 149)) e),
         (
           both_of (ap (λ (o : Outcome). step_of (step_of o.model (Tick 149)).model (Dequeue 149)) e),
@@ -194,9 +194,9 @@ module _ (x : Given) where
       let p : Outcome = unicast_turned o.model uni.ack_turn o.model.unicasts in
       let e : step_of (step_of m (AckReceived x.key)).model (AckReceived x.key) ≡ p =
       ap (λ (o : Outcome). step_of o.model (AckReceived x.key)) (ack-hits m x.key same_key) ∙ ack-hits o.model x.key same_key in (
-        both_of (ap (λ (o : Outcome). step_of o.model (reported x 3 (Failed x.code) 10 x.delay)) e ∙ report-hits p.model 3 x.frame (Failed x.code) 10 x.delay refl same-frame),
+        both_of (ap (λ (o : Outcome). step_of o.model (reported x 3 (Err x.code) 10 x.delay)) e ∙ report-hits p.model 3 x.frame (Err x.code) 10 x.delay refl same-frame),
         (
-          both_of (ap (λ (o : Outcome). step_of o.model (reported x 4 (Failed x.code) 10 x.delay)) e ∙ report-hits p.model 4 x.frame (Failed x.code) 10 x.delay refl same-frame),
+          both_of (ap (λ (o : Outcome). step_of o.model (reported x 4 (Err x.code) 10 x.delay)) e ∙ report-hits p.model 4 x.frame (Err x.code) 10 x.delay refl same-frame),
           tt,
         ),
       )
@@ -204,7 +204,7 @@ module _ (x : Given) where
   holds7 : All Holds (c7 x)
   holds7 =
       let m : Model = after (fresh_of 0) (passive x ∷ Tick 0 ∷ Dequeue 0 ∷ []) in
-      let e = broadcast-report-hits m 0 x.frame (Failed x.code) 10 500 refl same-frame in
+      let e = broadcast-report-hits m 0 x.frame (Err x.code) 10 500 refl same-frame in
       (both_of (ap (λ (o : Outcome). step_of o.model (Tick 509)) e), (both_of (ap (λ (o : Outcome). step_of o.model (Tick 510)) e), tt))
 
   holds9 : All Holds (c9 x)
@@ -214,7 +214,7 @@ module _ (x : Given) where
       let e : step_of m (Delivered x.quorum) ≡ o = delivered-hits m x.quorum same-quorum in (
         both_of e,
         (
-          both_of (ap (λ (o : Outcome). step_of o.model (broadcast_reported x Sent 10)) e ∙ broadcast-report-hits o.model 0 x.frame Sent 10 500 refl same-frame),
+          both_of (ap (λ (o : Outcome). step_of o.model (broadcast_reported x (Ok tt) 10)) e ∙ broadcast-report-hits o.model 0 x.frame (Ok tt) 10 500 refl same-frame),
           tt,
         ),
       )

@@ -1,5 +1,5 @@
 -- SUCCESS ONLY FOR CAUSE, proved: every call keeps each send tied to the history, and settles a success only for cause. Assumes nothing.
-use Rattle.std.specs.Prelude.{Option, None, Some}
+use Rattle.std.specs.Prelude.{Option, None, Some, Ok, Err}
 use Prim.Native.Nat.{ℕ, suc, ◌-◌, ◌≤◌}
 use native.Mathlib.Omega.{arith}
 use mathlib.Core.Path.{◌≡◌, refl, sym, ap, subst}
@@ -29,7 +29,7 @@ use Rattle.model.specs.Steps.Reply.{Says}
 use Rattle.model.specs.Sound.{SoundModel}
 use Rattle.model.proofs.Kepts.{all_insert, all-only}
 use Rattle.model.proofs.Sounds.{fresh-sound, step-sound}
-use Rattle.claims.specs.CausesTypes.{Address, Absent, Short, Extended, Stage, Queued, Transmitting, Retrying, AwaitingPoll, AwaitingApsAck, AckKey, QuorumKey, Unicast, Unrouted, Destination, Broadcast, Settings, TxResult, Sent, Failed, Verdict, Success, Failure, Code, Action, HandedOff, Settled, Refusal, TimeTooLate, IdsExhausted, NoCopies, NoPlace, ResultsMismatch, Best, Ready, Lapsed, Bound, Retry, NotHeld, Declined, Granted, NewUnicast, NewUnrouted, NewBroadcast, Resolved, Reached, Unreached, Lender, FromUnicasts, FromBroadcasts, Answer, Denied, Accepted, Issued}
+use Rattle.claims.specs.CausesTypes.{Address, Absent, Short, Extended, Stage, Queued, Transmitting, Retrying, AwaitingPoll, AwaitingApsAck, AckKey, QuorumKey, Unicast, Unrouted, Destination, Broadcast, Settings, TxResult, Verdict, Success, Failure, Code, Action, HandedOff, Settled, Refusal, TimeTooLate, IdsExhausted, NoCopies, NoPlace, ResultsMismatch, Best, Ready, Lapsed, Bound, Retry, NotHeld, Declined, Granted, NewUnicast, NewUnrouted, NewBroadcast, Resolved, Lender, FromUnicasts, FromBroadcasts, Answer, Denied, Accepted, Issued}
 use Rattle.claims.specs.Causes.Want.{AnAck, AReport, AReportAndQuorum}
 use Rattle.claims.specs.Causes.{Fact, Ever, Want, confirm_want, schedule_want, want_of, Enqueued, Acked, Reported, Heard, SuccessForCause, HandedOffForCause, OneWant, PollTellsNothing, FailedIsNoSuccess}
 use Rattle.claims.proofs.CausesMoves.{all_append, all-at, first-there, is-oldest, ForCause, each-kept, each-told, first-kept, first-told}
@@ -228,16 +228,16 @@ module _ (E : Fact → Type 0) where
     entering-tied : (s : Settings) (now : ℕ) (ts : List Unrouted) (rs : List Resolved) (us : List Unicast) → All (TiedR E) ts → All (TiedU E) us → All (TiedU E) (entering s now ts rs us)
     entering-tied s now [] rs us a b = b
     entering-tied s now (u ∷ ts) [] us a b = b
-    entering-tied s now (u ∷ ts) (Reached hop p ∷ rs) us a b =
+    entering-tied s now (u ∷ ts) (Ok (hop, p) ∷ rs) us a b =
         entering-tied s now ts rs (insert_by unicast_id (routed s now u hop p) us) a.1
         (all_insert (TiedU E) unicast_id (routed s now u hop p) (record { enqueued = a.0.enqueued; stage = stage-admitted E u.id (confirm_want u.confirm) p }) us b)
-    entering-tied s now (u ∷ ts) (Unreached c ∷ rs) us a b = entering-tied s now ts rs us a.1 b
+    entering-tied s now (u ∷ ts) (Err c ∷ rs) us a b = entering-tied s now ts rs us a.1 b
 
     failing-told : (ts : List Unrouted) (rs : List Resolved) → All (ForCause E) (failing ts rs)
     failing-told [] rs = tt
     failing-told (u ∷ ts) [] = tt
-    failing-told (u ∷ ts) (Reached hop p ∷ rs) = failing-told ts rs
-    failing-told (u ∷ ts) (Unreached c ∷ rs) = (tt, failing-told ts rs)
+    failing-told (u ∷ ts) (Ok (hop, p) ∷ rs) = failing-told ts rs
+    failing-told (u ∷ ts) (Err c ∷ rs) = (tt, failing-told ts rs)
 
     routing-fair : (s : Settings) (d now : ℕ) (rs : List Resolved) → Fair (routing m s d now rs)
     routing-fair s d now rs =
@@ -320,8 +320,8 @@ module _ (E : Fact → Type 0) where
   step-fair m s t (Transmitted from id frame x now delay) h = fair _ (report-fair t from id frame x now delay (go x h))
     where
       go : (x : TxResult) → ((P : Fact) → P m (Transmitted from id frame x now delay) → E P) → (transmitted_of m from id frame x now delay).answer ≡ Accepted → IfSent E x id
-      go Sent h a = h (Reported id) (record { from = from; frame = frame; now = now; delay = delay; came = refl; accepted = ap Says a })
-      go (Failed code) h a = tt
+      go (Ok _) h a = h (Reported id) (record { from = from; frame = frame; now = now; delay = delay; came = refl; accepted = ap Says a })
+      go (Err code) h a = tt
   step-fair m s t (Poll eui nwk now) h = fair _ (poll-fair t eui nwk now)
   step-fair m s t (AckReceived k) h =
       fair _
@@ -530,7 +530,7 @@ module _ (E : Fact → Type 0) (code now delay : ℕ) (u : Unicast) (t : TiedU E
   abbrev Tells : Turn Unicast → Type 0
   Tells x = All NoSuccess (told (unicast_entry u) x)
 
-  failed-tells : Tells (uni.report_turn (Failed code) now delay u)
+  failed-tells : Tells (uni.report_turn (Err code) now delay u)
   failed-tells = go u.stage t.stage
     where
       not-acked : (w : Want) → AckCame E u.id w → ⊥
@@ -546,7 +546,7 @@ module _ (E : Fact → Type 0) (code now delay : ℕ) (u : Unicast) (t : TiedU E
       failed (Short n) = held
       failed (Extended n) = held
 
-      go : (s : Stage) → StageFor E u.id (confirm_want u.confirm) s → Tells (uni.report_by u (Failed code) now delay s)
+      go : (s : Stage) → StageFor E u.id (confirm_want u.confirm) s → Tells (uni.report_by u (Err code) now delay s)
       go Queued f = tt
       go (Transmitting true) f = absurd (not-acked (confirm_want u.confirm) f)
       go (Transmitting false) f = failed u.poll_address
@@ -556,7 +556,7 @@ module _ (E : Fact → Type 0) (code now delay : ℕ) (u : Unicast) (t : TiedU E
 
 pub failed-is-no-success : FailedIsNoSuccess
 failed-is-no-success first cs i frame code now delay e hop l unacked x =
-    all-at NoSuccess (transmitted_of m FromUnicasts i frame (Failed code) now delay).actions (Settled e Success hop)
+    all-at NoSuccess (transmitted_of m FromUnicasts i frame (Err code) now delay).actions (Settled e Success hop)
     (either Quiet (late now) tt (go (unis.report_bar frame (first_of (has_id unicast_entry i) m.unicasts)))) x
   where
     E : Fact → Type 0
@@ -569,7 +569,7 @@ failed-is-no-success first cs i frame code now delay e hop l unacked x =
     Quiet f = All NoSuccess f.actions
 
     f : Unicast → Turn Unicast
-    f = uni.report_turn (Failed code) now delay
+    f = uni.report_turn (Err code) now delay
 
     tied : All (TiedU E) m.unicasts
     tied = (walk-tied E (fresh_of first) (fresh-sound first l) (none-tied E first) cs (λ P x. x)).unicasts

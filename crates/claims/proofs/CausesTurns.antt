@@ -1,5 +1,5 @@
 -- What ties the flags of a send to the history, and that each rule keeps it or settles for cause. Assumes nothing.
-use Rattle.std.specs.Prelude.{Option, None, Some}
+use Rattle.std.specs.Prelude.{Option, None, Some, Ok, Err}
 use Prim.Native.Nat.{ℕ, ◌+◌, ◌-◌}
 use mathlib.Core.Path.{◌≡◌, refl, sym, ap, subst}
 use mathlib.Core.Bool.{Bool, true, false, not, ◌&&◌, ◌||◌}
@@ -11,7 +11,7 @@ use Rattle.rows.specs.Moves.{Turn}
 use Rattle.sending.specs.Rules as uni
 use Rattle.unrouted.specs.Rules as unr
 use Rattle.casting.specs.Rules as bro
-use Rattle.claims.specs.CausesTypes.{Address, Absent, Short, Extended, AckKey, QuorumKey, Confirm, OnHandoff, ApsAck, Stage, Queued, Transmitting, Retrying, AwaitingPoll, AwaitingApsAck, Unicast, Unrouted, Broadcast, Schedule, Once, PassiveAck, FixedInterval, CopyState, Idle, CopyQueued, CopyTransmitting, TxResult, Sent, Failed, Lapsed, Bound}
+use Rattle.claims.specs.CausesTypes.{Address, Absent, Short, Extended, AckKey, QuorumKey, Confirm, OnHandoff, ApsAck, Stage, Queued, Transmitting, Retrying, AwaitingPoll, AwaitingApsAck, Unicast, Unrouted, Broadcast, Schedule, Once, PassiveAck, FixedInterval, CopyState, Idle, CopyQueued, CopyTransmitting, TxResult, Lapsed, Bound}
 use Rattle.claims.specs.Causes.{Fact, Want, confirm_want, schedule_want, Enqueued, Acked, Reported, Heard, Caused}
 use Rattle.claims.specs.Causes.Want.{AnAck, AReport, AReportAndQuorum}
 use Rattle.claims.proofs.CausesMoves.{IfSuccess, Good}
@@ -77,8 +77,8 @@ module _ (E : Fact → Type 0) where
 
   -- a report of success came
   abbrev pub IfSent : TxResult → ℕ → Type 0
-  IfSent Sent i = E (Reported i)
-  IfSent (Failed c) i = Unit {0}
+  IfSent (Ok _) i = E (Reported i)
+  IfSent (Err c) i = Unit {0}
 
   caused : (i : ℕ) (w : Want) → E (Enqueued i w) → AckCame i w → Caused E i
   caused i (AnAck k) q a = record { want = AnAck k; enqueued = q; met = a }
@@ -140,9 +140,9 @@ module _ (E : Fact → Type 0) where
       failed code (Extended n) = held code
 
       sent : (a : Bool) (y : TxResult) → StageFor u.id (confirm_want u.confirm) (Transmitting a) → IfSent y u.id → GoodU u (uni.report_sent u a y now delay)
-      sent a Sent f r = handed a u.confirm t.enqueued f r (λ d. record { enqueued = t.enqueued; stage = r })
-      sent true (Failed code) f r = marked u.confirm t.enqueued f
-      sent false (Failed code) f r = failed code u.poll_address
+      sent a (Ok _) f r = handed a u.confirm t.enqueued f r (λ d. record { enqueued = t.enqueued; stage = r })
+      sent true (Err code) f r = marked u.confirm t.enqueued f
+      sent false (Err code) f r = failed code u.poll_address
 
       go : (s : Stage) → StageFor u.id (confirm_want u.confirm) s → GoodU u (uni.report_by u x now delay s)
       go Queued f = t
@@ -234,10 +234,10 @@ module _ (E : Fact → Type 0) where
     where
       again : (s : Schedule) → E (Enqueued b.id (schedule_want s)) → (b.quorum_heard ≡ true → QuorumCame b.id (schedule_want s)) → (y : TxResult) → IfSent y b.id
           → GoodB b (bro.repeat_turn b s y)
-      again s q hr Sent r =
+      again s q hr (Ok _) r =
           let z : TiedB (bro.remade b s Idle true b.quorum_heard b.last_error) = record { enqueued = q; handed = λ g. r; heard = hr } in
           either-by (GoodB b) b.quorum_heard (λ h. ((λ g. r), both-came b.id s q r (hr h))) (λ h. either (GoodB b) b.handed_off z (r, z))
-      again s q hr (Failed c) r =
+      again s q hr (Err c) r =
           either-by (GoodB b) (b.quorum_heard && b.handed_off)
           (λ h.
           let g = both b.quorum_heard b.handed_off h in
@@ -245,8 +245,8 @@ module _ (E : Fact → Type 0) where
           (λ h. record { enqueued = q; handed = t.handed; heard = hr })
 
       once : (y : TxResult) → E (Enqueued b.id AReport) → IfSent y b.id → IfSuccess E (bro.result_verdict y) b.id
-      once Sent q r = record { want = AReport; enqueued = q; met = r }
-      once (Failed c) q r = tt
+      once (Ok _) q r = record { want = AReport; enqueued = q; met = r }
+      once (Err c) q r = tt
 
       go : (s : Schedule) → E (Enqueued b.id (schedule_want s)) → (b.quorum_heard ≡ true → QuorumCame b.id (schedule_want s)) → GoodB b (bro.report_by b x now delay s)
       go Once q hr = (t.handed, once x q e)

@@ -1,13 +1,13 @@
 -- ON EITHER SIDE OF THE BELL: 01's boundary cases C1 to C9 as one table. Each line is a history of calls from fresh tables, and what its last call says and
 -- tells. Whatever the handles and the other fields are that do not matter, the table holds: proofs/Bell proves it.
-use Rattle.std.specs.Prelude.{ℕ, ◌≡◌, true, false, List, [], ◌∷◌, ◌++◌, None, Some}
+use Rattle.std.specs.Prelude.{ℕ, ◌≡◌, true, false, List, [], ◌∷◌, ◌++◌, None, Some, Ok, Err}
 use Rattle.records.specs.Numbers.{default_settings}
 use Rattle.rows.specs.Lists.{All}
 use Rattle.model.specs.Model.{fresh_of}
 use Rattle.model.specs.Steps.{Call, step_of, after}
 use Rattle.model.specs.Steps.Call.{EnqueueUnicast, EnqueueCopy, EnqueueBroadcast, Dequeue, Transmitted, Poll, AckReceived, Delivered, Cancel, Tick}
 use Rattle.model.specs.Steps.Reply.{Says}
-use Rattle.claims.specs.CausesTypes.{Address, Absent, Short, Priority, UserNormal, UserHigh, AckKey, QuorumKey, Confirm, ApsAck, Schedule, PassiveAck, TxResult, Sent, Failed, HandoffTimeout, Cancelled, Success, Failure, Code, Entry, Action, HandedOff, Settled, InTheRadio, NewUnicast, NewBroadcast, FromUnicasts, FromBroadcasts, Answer, Denied, Accepted, Replied, NothingQueued, InFlight, Unicasting}
+use Rattle.claims.specs.CausesTypes.{Address, Absent, Short, Priority, UserNormal, UserHigh, AckKey, QuorumKey, Confirm, ApsAck, Schedule, PassiveAck, TxResult, HandoffTimeout, Cancelled, Success, Failure, Code, Entry, Action, HandedOff, Settled, InTheRadio, NewUnicast, NewBroadcast, FromUnicasts, FromBroadcasts, Answer, Denied, Accepted, Replied, NothingQueued, InFlight, Unicasting}
 
 -- what does not matter: two handles, a priority, what confirms, a next hop, a device's short address, two keys, the wait for an ack, a code, a retry delay
 pub record Given : Type 0 where
@@ -91,7 +91,7 @@ module _ (x : Given) where
   c3 =
       let sent : List Call = enqueue x.priority (ApsAck x.key x.wait) Absent ∷ Dequeue 0 ∷ [] in
       line 0 sent (AckReceived x.key) Accepted []
-      ∷ line 0 (sent ++ (AckReceived x.key ∷ [])) (reported 0 (Failed x.code) 10 x.delay) Accepted (Settled (entry 0) Success None ∷ [])
+      ∷ line 0 (sent ++ (AckReceived x.key ∷ [])) (reported 0 (Err x.code) 10 x.delay) Accepted (Settled (entry 0) Success None ∷ [])
       ∷ []
 
   -- C4: held, failed at deadline − 1: awaits (a poll finds it); at deadline: settled, no hop
@@ -99,15 +99,15 @@ module _ (x : Given) where
   c4 =
       let polled : List Call =
       enqueue x.priority x.confirm (Short x.device) ∷ Poll None (Some x.device) 0 ∷ Dequeue 0 ∷ [] in
-      line 0 polled (reported 0 (Failed x.code) 7679 x.delay) Accepted []
-      ∷ line 0 (polled ++ (reported 0 (Failed x.code) 7679 x.delay ∷ [])) (Poll None (Some x.device) 7679) (Replied true) []
-      ∷ line 0 polled (reported 0 (Failed x.code) 7680 x.delay) Accepted (Settled (entry 0) (Code x.code) None ∷ [])
+      line 0 polled (reported 0 (Err x.code) 7679 x.delay) Accepted []
+      ∷ line 0 (polled ++ (reported 0 (Err x.code) 7679 x.delay ∷ [])) (Poll None (Some x.device) 7679) (Replied true) []
+      ∷ line 0 polled (reported 0 (Err x.code) 7680 x.delay) Accepted (Settled (entry 0) (Code x.code) None ∷ [])
       ∷ []
 
   -- C5: failed at 100, delay 50, attempts left: tick 149 nothing, 150 queued
   abbrev pub c5 : List Line
   c5 =
-      let failed : List Call = enqueue x.priority x.confirm Absent ∷ Dequeue 0 ∷ reported 0 (Failed x.code) 100 50 ∷ [] in
+      let failed : List Call = enqueue x.priority x.confirm Absent ∷ Dequeue 0 ∷ reported 0 (Err x.code) 100 50 ∷ [] in
       line 0 failed (Tick 149) Accepted []
       ∷ line 0 (failed ++ (Tick 149 ∷ [])) (Dequeue 149) NothingQueued []
       ∷ line 0 failed (Tick 150) Accepted []
@@ -119,14 +119,14 @@ module _ (x : Given) where
   c6 =
       let send : Call = enqueue x.priority (ApsAck x.key x.wait) Absent in
       let acked : List Call = send ∷ Dequeue 0 ∷ send ∷ Dequeue 0 ∷ AckReceived x.key ∷ AckReceived x.key ∷ [] in
-      line 3 acked (reported 3 (Failed x.code) 10 x.delay) Accepted (Settled (entry 3) Success None ∷ [])
-      ∷ line 3 acked (reported 4 (Failed x.code) 10 x.delay) Accepted []
+      line 3 acked (reported 3 (Err x.code) 10 x.delay) Accepted (Settled (entry 3) Success None ∷ [])
+      ∷ line 3 acked (reported 4 (Err x.code) 10 x.delay) Accepted []
       ∷ []
 
   -- C7: passive, one copy, next 0: failed at 10 with interval 500: tick 509 nothing, 510 that error
   abbrev pub c7 : List Line
   c7 =
-      let failed : List Call = passive ∷ Tick 0 ∷ Dequeue 0 ∷ broadcast_reported (Failed x.code) 10 ∷ [] in
+      let failed : List Call = passive ∷ Tick 0 ∷ Dequeue 0 ∷ broadcast_reported (Err x.code) 10 ∷ [] in
       line 0 failed (Tick 509) Accepted []
       ∷ line 0 failed (Tick 510) Accepted (Settled (entry 0) (Code x.code) None ∷ [])
       ∷ []
@@ -145,7 +145,7 @@ module _ (x : Given) where
   c9 =
       let lent : List Call = passive ∷ Tick 0 ∷ Dequeue 0 ∷ [] in
       line 0 lent (Delivered x.quorum) Accepted []
-      ∷ line 0 (lent ++ (Delivered x.quorum ∷ [])) (broadcast_reported Sent 10) Accepted (HandedOff 0 x.waiter ∷ Settled (entry 0) Success None ∷ [])
+      ∷ line 0 (lent ++ (Delivered x.quorum ∷ [])) (broadcast_reported (Ok tt) 10) Accepted (HandedOff 0 x.waiter ∷ Settled (entry 0) Success None ∷ [])
       ∷ []
 
 -- THE TABLE

@@ -1,10 +1,10 @@
 -- SUCCESS ONLY FOR CAUSE: a send is settled as a success, or told as handed off, only where its cause is among the calls made so far, this one included.
 -- Any calls may stand in a history, refused ones too; its first id is any u32 (first ≤ no_id). proofs/Causes proves it.
-use Rattle.std.specs.Prelude.{ℕ, ◌≤◌, ◌≡◌, Bool, true, ◌⊎◌, Option, None, Some}
+use Rattle.std.specs.Prelude.{ℕ, ◌≤◌, ◌≡◌, Bool, true, ◌⊎◌, Option, None, Some, Ok, Err}
 use mathlib.Core.List.{List, [], ◌∷◌, ◌++◌, Memᴰ}
 use Rattle.records.specs.Limits.{no_id}
 use Rattle.records.specs.Records.{unicast_entry, broadcast_entry}
-use Rattle.claims.specs.CausesTypes.{AckKey, QuorumKey, Confirm, OnHandoff, ApsAck, Schedule, Once, PassiveAck, FixedInterval, Sent, Failed, Success, Entry, HandedOff, Settled}
+use Rattle.claims.specs.CausesTypes.{AckKey, QuorumKey, Confirm, OnHandoff, ApsAck, Schedule, Once, PassiveAck, FixedInterval, Success, Entry, HandedOff, Settled}
 use Rattle.rows.specs.Lists.{All}
 use Rattle.sending.specs.Rules as uni
 use Rattle.casting.specs.Rules as bro
@@ -91,7 +91,7 @@ pub record Reported (i : ℕ) (m : Model) (c : Call) : Type 0 where
   pub frame : ℕ
   pub now : ℕ
   pub delay : ℕ
-  pub came : c ≡ Transmitted from i frame Sent now delay
+  pub came : c ≡ Transmitted from i frame (Ok tt) now delay
   pub accepted : (step_of m c).reply ≡ Says Accepted
 
 -- it says that the key k was delivered, and i is then the oldest broadcast that waits for this key's quorum
@@ -140,4 +140,4 @@ PollTellsNothing = (m : Model) (eui : Option ℕ) (nwk : Option ℕ) (now : ℕ)
 abbrev pub FailedIsNoSuccess : Type 0
 FailedIsNoSuccess =
     (first : ℕ) (cs : List Call) (i frame code now delay : ℕ) (e : Entry) (hop : Option ℕ) → first ≤ no_id → ((k : AckKey) → Ever (fresh_of first) cs (Acked i k) → ⊥)
-    → Memᴰ (Settled e Success hop) (step_of (after (fresh_of first) cs) (Transmitted FromUnicasts i frame (Failed code) now delay)).actions → ⊥
+    → Memᴰ (Settled e Success hop) (step_of (after (fresh_of first) cs) (Transmitted FromUnicasts i frame (Err code) now delay)).actions → ⊥

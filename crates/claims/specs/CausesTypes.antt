@@ -18,8 +18,7 @@ pub use Rattle.records.specs.declared.CopyState.{CopyState}
 pub use Rattle.records.specs.declared.CopyState.TheVariants.{Idle, CopyQueued, CopyTransmitting}
 pub use Rattle.records.specs.declared.Broadcast.{Broadcast}
 pub use Rattle.records.specs.declared.Settings.{Settings}
-pub use Rattle.records.specs.declared.TxResult.{TxResult}
-pub use Rattle.records.specs.declared.TxResult.TheVariants.{Sent, Failed}
+pub use Rattle.records.specs.Types.{TxResult}
 pub use Rattle.records.specs.declared.SendFailure.TheVariants.{HandoffTimeout, Cancelled}
 pub use Rattle.records.specs.declared.Verdict.{Verdict}
 pub use Rattle.records.specs.declared.Verdict.TheVariants.{Success, Failure, Code}
@@ -34,8 +33,7 @@ pub use Rattle.unrouted.specs.declared.Retry.TheVariants.{NotHeld, Declined, Gra
 pub use Rattle.model.specs.declared.NewUnicast.{NewUnicast}
 pub use Rattle.model.specs.declared.NewUnrouted.{NewUnrouted}
 pub use Rattle.model.specs.declared.NewBroadcast.{NewBroadcast}
-pub use Rattle.model.specs.declared.Resolved.{Resolved}
-pub use Rattle.model.specs.declared.Resolved.TheVariants.{Reached, Unreached}
+pub use Rattle.model.specs.Types.{Resolved}
 pub use Rattle.model.specs.declared.Lender.{Lender}
 pub use Rattle.model.specs.declared.Lender.TheVariants.{FromUnicasts, FromBroadcasts}
 pub use Rattle.model.specs.declared.Transmit.TheVariants.{Unicasting}

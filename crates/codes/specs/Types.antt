@@ -18,8 +18,7 @@ pub use Rattle.records.specs.declared.CopyState.{CopyState}
 pub use Rattle.records.specs.declared.CopyState.TheVariants.{Idle, CopyQueued, CopyTransmitting}
 pub use Rattle.records.specs.declared.Broadcast.{Broadcast}
 pub use Rattle.records.specs.declared.Settings.{Settings}
-pub use Rattle.records.specs.declared.TxResult.{TxResult}
-pub use Rattle.records.specs.declared.TxResult.TheVariants.{Sent, Failed}
+pub use Rattle.records.specs.Types.{TxResult}
 pub use Rattle.records.specs.declared.SendFailure.{SendFailure}
 pub use Rattle.records.specs.declared.SendFailure.TheVariants.{HandoffTimeout, ApsAckTimeout, IndirectExpired, RouteDiscoveryTimeout, BroadcastQuorumNotReached, Cancelled}
 pub use Rattle.records.specs.declared.Verdict.{Verdict}

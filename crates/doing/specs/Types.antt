@@ -9,7 +9,7 @@ pub use Rattle.records.specs.declared.Unrouted.{Unrouted}
 pub use Rattle.records.specs.declared.Destination.{Destination}
 pub use Rattle.records.specs.declared.Broadcast.{Broadcast}
 pub use Rattle.records.specs.declared.Settings.{Settings}
-pub use Rattle.records.specs.declared.TxResult.{TxResult}
+pub use Rattle.records.specs.Types.{TxResult}
 pub use Rattle.records.specs.declared.Entry.{Entry}
 pub use Rattle.records.specs.declared.Verdict.TheVariants.{Code}
 pub use Rattle.records.specs.declared.Action.{Action}
@@ -24,8 +24,7 @@ pub use Rattle.unrouted.specs.declared.Retry.TheVariants.{NotHeld, Declined, Gra
 pub use Rattle.model.specs.declared.NewUnicast.{NewUnicast}
 pub use Rattle.model.specs.declared.NewUnrouted.{NewUnrouted}
 pub use Rattle.model.specs.declared.NewBroadcast.{NewBroadcast}
-pub use Rattle.model.specs.declared.Resolved.{Resolved}
-pub use Rattle.model.specs.declared.Resolved.TheVariants.{Reached, Unreached}
+pub use Rattle.model.specs.Types.{Resolved}
 pub use Rattle.model.specs.declared.Lender.{Lender}
 pub use Rattle.model.specs.declared.Lender.TheVariants.{FromUnicasts, FromBroadcasts}
 pub use Rattle.model.specs.declared.Transmit.{Transmit}

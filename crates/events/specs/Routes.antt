@@ -1,20 +1,20 @@
 -- Kind 12, a route: now 8, destination 2, count 1 (to 16), sixteen of result tag 1, hop 2, address 9, code 2.
-use Rattle.std.specs.Prelude.{ℕ, zero, suc, ◌+◌, ◌*◌, Bool, true, false, List, [], ◌∷◌, eqb, ltb, length, replicate, Option, None, Some}
+use Rattle.std.specs.Prelude.{ℕ, zero, suc, ◌+◌, ◌*◌, Bool, true, false, List, [], ◌∷◌, eqb, ltb, length, replicate, Option, None, Some, Ok, Err}
 use Rattle.records.specs.Pick.{pick}
 use Rattle.fields.specs.Bytes.{number}
 use Rattle.fields.specs.Parts.{address_at}
-use Rattle.events.specs.Types.{Address, Absent, Short, Extended, Resolved, Reached, Unreached, Event, OnRoute, Malformed}
+use Rattle.events.specs.Types.{Address, Absent, Short, Extended, Resolved, Event, OnRoute, Malformed}
 
 -- under tag 1 hop and address are absent
 abbrev pub unreached_by : ℕ → Address → ℕ → Option Resolved
-unreached_by hop Absent code = pick (eqb hop 0) (Some (Unreached code)) None
+unreached_by hop Absent code = pick (eqb hop 0) (Some (Err code)) None
 unreached_by hop (Short x) code = None
 unreached_by hop (Extended x) code = None
 
 -- under tag 0 the code is absent
 abbrev pub resolved_by : ℕ → ℕ → Address → ℕ → Option Resolved
 resolved_by tag hop a code =
-    pick (eqb tag 0) (pick (eqb code 0) (Some (Reached hop a)) None) (pick (eqb tag 1) (unreached_by hop a code) None)
+    pick (eqb tag 0) (pick (eqb code 0) (Some (Ok (hop, a))) None) (pick (eqb tag 1) (unreached_by hop a code) None)
 
 abbrev pub resolved_with : ℕ → ℕ → Option Address → ℕ → Option Resolved
 resolved_with tag hop (Some a) code = resolved_by tag hop a code
@@ -26,7 +26,7 @@ resolved_at at b = resolved_with (number 1 at b) (number 2 (at + 1) b) (address_
 -- ---- the sixteen results
 
 abbrev pub no_result : Resolved
-no_result = Unreached 0
+no_result = Err 0
 
 abbrev pub result_in : Option Resolved → Resolved
 result_in (Some r) = r

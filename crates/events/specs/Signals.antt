@@ -6,7 +6,7 @@ use Rattle.records.specs.declared.Settings.{Settings}
 use Rattle.events.specs.Types.{Absent, Short, Extended, Event, OnSettings, OnDequeue, OnReport, OnPoll, OnAck, OnRetry, OnFail, OnDelivered, OnDrop, OnCancel, OnTick, OnPair, OnHasUnrouted, OnHasAwaiting, Malformed}
 use Rattle.records.specs.declared.Address.{Address}
 use Rattle.records.specs.declared.AckKey.{AckKey}
-use Rattle.records.specs.declared.TxResult.{TxResult}
+use Rattle.records.specs.Types.{TxResult}
 use Rattle.model.specs.declared.Lender.{Lender}
 
 -- 1: handoff 4, persistence 4, retries 1, attempts 1

@@ -10,13 +10,11 @@ pub use Rattle.records.specs.declared.QuorumKey.{QuorumKey}
 pub use Rattle.records.specs.declared.Schedule.{Schedule}
 pub use Rattle.records.specs.declared.Schedule.TheVariants.{Once, PassiveAck, FixedInterval}
 pub use Rattle.records.specs.declared.Settings.{Settings}
-pub use Rattle.records.specs.declared.TxResult.{TxResult}
-pub use Rattle.records.specs.declared.TxResult.TheVariants.{Sent, Failed}
+pub use Rattle.records.specs.Types.{TxResult}
 pub use Rattle.model.specs.declared.NewUnicast.{NewUnicast}
 pub use Rattle.model.specs.declared.NewUnrouted.{NewUnrouted}
 pub use Rattle.model.specs.declared.NewBroadcast.{NewBroadcast}
-pub use Rattle.model.specs.declared.Resolved.{Resolved}
-pub use Rattle.model.specs.declared.Resolved.TheVariants.{Reached, Unreached}
+pub use Rattle.model.specs.Types.{Resolved}
 pub use Rattle.model.specs.declared.Lender.{Lender}
 pub use Rattle.model.specs.declared.Lender.TheVariants.{FromUnicasts, FromBroadcasts}
 pub use Rattle.events.specs.declared.Event.{Event}

@@ -16,7 +16,7 @@ fn unreached_by(hop: u16, address: Address, code: u16) -> Option<Resolved>
     match address {
         Address::Absent => {
             if hop == 0 {
-                Some(Resolved::Unreached(code))
+                Some(Err(code))
             } else {
                 None
             }
@@ -32,7 +32,7 @@ fn resolved_by(tag: u8, hop: u16, address: Address, code: u16) -> Option<Resolve
     match tag {
         0 => {
             if code == 0 {
-                Some(Resolved::Reached(hop, address))
+                Some(Ok((hop, address)))
             } else {
                 None
             }
@@ -67,7 +67,7 @@ fn result_in(x: Option<Resolved>) -> Resolved
 {
     match x {
         Some(y) => y,
-        None => Resolved::Unreached(0),
+        None => Err(0),
     }
 }
 
@@ -87,7 +87,7 @@ fn route_results(b: &[u8]) -> [Resolved; 16]
     requires { 235 ≤ length b.now }
     ensures { result ≡ results_of b.now }
 {
-    let mut results = [Resolved::Unreached(0); 16];
+    let mut results = [Err(0); 16];
     for i in 0..16 {
         results[i] = result_in(resolved_at(b, i * 14 + 11));
     }
@@ -99,7 +99,7 @@ pub fn results_in(b: &[u8]) -> [Resolved; 16]
     ensures { result ≡ results_in b.now }
 {
     if b.len() < 235 {
-        return [Resolved::Unreached(0); 16];
+        return [Err(0); 16];
     }
     route_results(b)
 }

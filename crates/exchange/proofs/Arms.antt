@@ -21,7 +21,7 @@ use Rattle.records.specs.declared.Priority.{Priority}
 use Rattle.records.specs.declared.Address.{Address}
 use Rattle.records.specs.declared.AckKey.{AckKey}
 use Rattle.records.specs.declared.Confirm.{Confirm}
-use Rattle.records.specs.declared.TxResult.{TxResult}
+use Rattle.records.specs.Types.{TxResult}
 use Rattle.records.specs.declared.Schedule.{Schedule}
 use Rattle.model.specs.declared.Lender.{Lender}
 use Rattle.model.specs.declared.NewUnicast.{NewUnicast}

@@ -10,7 +10,7 @@ pub use Rattle.sending.specs.declared.Book.TheVariants.{Shorts, Longs}
 pub use Rattle.model.specs.declared.Counts.{Counts}
 pub use Rattle.model.specs.declared.Did.{Did}
 pub use Rattle.model.specs.declared.Abandoned.{Abandoned}
-pub use Rattle.model.specs.declared.Resolved.{Resolved}
+pub use Rattle.model.specs.Types.{Resolved}
 pub use Rattle.answers.specs.declared.Item.{Item}
 pub use Rattle.answers.specs.declared.Item.TheVariants.{Refused, Done, ShortAddress, ExtendedAddress, Key, Abandonment, DestinationAddress}
 pub use Rattle.events.specs.declared.Event.{Event}

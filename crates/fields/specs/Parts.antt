@@ -1,14 +1,14 @@
 -- The parts of a body: what each says, and when it is outside its form. An absent part is zero, a short address at most 65535, a priority 0 to 5, a flag 0
 -- or 1, a tag one of its own.
-use Rattle.std.specs.Prelude.{ℕ, ◌+◌, ◌/◌, ◌%◌, Bool, true, false, List, [], ◌∷◌, eqb, leb, ltb, Option, None, Some}
+use Rattle.std.specs.Prelude.{ℕ, ◌+◌, ◌/◌, ◌%◌, Bool, true, false, List, [], ◌∷◌, eqb, leb, ltb, Option, None, Some, Ok, Err}
 use Rattle.records.specs.Pick.{pick}
 use Rattle.fields.specs.Bytes.{number}
-use Rattle.fields.specs.Types.{Absent, Short, Extended, Background, UserLow, UserNormal, UserHigh, UserCritical, StackCritical, OnHandoff, ApsAck, QuorumKey, Once, PassiveAck, FixedInterval, Sent, Failed, FromUnicasts, FromBroadcasts}
+use Rattle.fields.specs.Types.{Absent, Short, Extended, Background, UserLow, UserNormal, UserHigh, UserCritical, StackCritical, OnHandoff, ApsAck, QuorumKey, Once, PassiveAck, FixedInterval, FromUnicasts, FromBroadcasts}
 use Rattle.records.specs.declared.Priority.{Priority}
 use Rattle.records.specs.declared.Address.{Address}
 use Rattle.records.specs.declared.AckKey.{AckKey}
 use Rattle.records.specs.declared.Confirm.{Confirm}
-use Rattle.records.specs.declared.TxResult.{TxResult}
+use Rattle.records.specs.Types.{TxResult}
 use Rattle.records.specs.declared.Schedule.{Schedule}
 use Rattle.model.specs.declared.Lender.{Lender}
 
@@ -83,7 +83,7 @@ confirm_at at b = confirm_with (number 1 at b) (eqb (number 14 (at + 1) b) 0) (k
 -- ---- a result: tag (1 for error), code 2; and of which table it is (1 for broadcast)
 
 abbrev pub result_by : ℕ → ℕ → Option TxResult
-result_by tag code = pick (eqb tag 0) (pick (eqb code 0) (Some Sent) None) (pick (eqb tag 1) (Some (Failed code)) None)
+result_by tag code = pick (eqb tag 0) (pick (eqb code 0) (Some (Ok tt)) None) (pick (eqb tag 1) (Some (Err code)) None)
 
 abbrev pub lender_by : ℕ → Option Lender
 lender_by flag = pick (eqb flag 0) (Some FromUnicasts) (pick (eqb flag 1) (Some FromBroadcasts) None)

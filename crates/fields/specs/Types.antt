@@ -4,5 +4,4 @@ pub use Rattle.records.specs.declared.Priority.TheVariants.{Background, UserLow,
 pub use Rattle.records.specs.declared.Confirm.TheVariants.{OnHandoff, ApsAck}
 pub use Rattle.records.specs.declared.QuorumKey.{QuorumKey}
 pub use Rattle.records.specs.declared.Schedule.TheVariants.{Once, PassiveAck, FixedInterval}
-pub use Rattle.records.specs.declared.TxResult.TheVariants.{Sent, Failed}
 pub use Rattle.model.specs.declared.Lender.TheVariants.{FromUnicasts, FromBroadcasts}

@@ -211,12 +211,12 @@ pub fn result_by(tag: u8, code: u16) -> Option<TxResult>
     match tag {
         0 => {
             if code == 0 {
-                Some(TxResult::Sent)
+                Some(Ok(()))
             } else {
                 None
             }
         }
-        1 => Some(TxResult::Failed(code)),
+        1 => Some(Err(code)),
         _ => None,
     }
 }

@@ -1,5 +1,5 @@
 -- No call makes more than 112 actions, and full tables past their deadlines make that many: specs/Claims. Assumes nothing.
-use Rattle.std.specs.Prelude.{Option, None, Some}
+use Rattle.std.specs.Prelude.{Option, None, Some, Ok, Err}
 use Prim.Native.Nat.{ℕ, zero, suc, ◌+◌, ◌-◌, ◌*◌, ◌≤◌, ◌<◌}
 use native.Mathlib.Omega.{arith}
 use mathlib.Core.Path.{◌≡◌, refl, sym}
@@ -28,7 +28,7 @@ use Rattle.unrouted.specs.Rules as unr
 use Rattle.casting.specs.Rules as bro
 use Rattle.sending.specs.Lists as unis
 use Rattle.casting.specs.Claims.{Sane}
-use Rattle.model.specs.Types.{NewUnicast, NewUnrouted, NewBroadcast, Settings, Unicast, Unrouted, Broadcast, FixedInterval, Lapsed, Bound, Retry, NotHeld, Declined, Granted, Resolved, Reached, Unreached, Lender, FromUnicasts, FromBroadcasts, TxResult, Action, Refusal}
+use Rattle.model.specs.Types.{NewUnicast, NewUnrouted, NewBroadcast, Settings, Unicast, Unrouted, Broadcast, FixedInterval, Lapsed, Bound, Retry, NotHeld, Declined, Granted, Resolved, Lender, FromUnicasts, FromBroadcasts, TxResult, Action, Refusal}
 use Rattle.model.specs.Model.{Model, Effect}
 use Rattle.model.specs.Calls.{late, attempt_late, reached, matched, unless, enqueue_of, enqueue_unrouted_of, enqueue_broadcast_of, admitting, only, failing, lapsed, ticked, lend_best, unicast_first, report_in, fail_of, drop_of, cancel_of, route_of, retry_by, cast_bar, cancel_unrouted, turn_unicast, turn_broadcast}
 use Rattle.model.specs.Steps.Call.{EnqueueUnicast, EnqueueCopy, EnqueueUnrouted, EnqueueBroadcast, Dequeue, Transmitted, Poll, AckReceived, RetryDiscovery, FailUnrouted, RouteUnicasts, Delivered, DropIndirect, Cancel, Tick, Abandon, NextWake, Destinations, AwaitingQuorum, PollAddresses, HasUnrouted, HasAwaiting}
@@ -48,8 +48,8 @@ only-length q (x ∷ xs) =
 failing-few : (us : List Unrouted) (rs : List Resolved) → length (failing us rs) ≤ length us
 failing-few [] rs = omega arith
 failing-few (u ∷ us) [] = omega arith
-failing-few (u ∷ us) (Reached hop a ∷ rs) = omega (arith, failing-few us rs)
-failing-few (u ∷ us) (Unreached c ∷ rs) = omega (arith, failing-few us rs)
+failing-few (u ∷ us) (Ok (hop, a) ∷ rs) = omega (arith, failing-few us rs)
+failing-few (u ∷ us) (Err c ∷ rs) = omega (arith, failing-few us rs)
 
 -- ---- no call makes more
 

@@ -1,5 +1,5 @@
 -- What an accepted route and an accepted cancel do: specs/Claims. Assumes nothing.
-use Rattle.std.specs.Prelude.{Option, None, Some}
+use Rattle.std.specs.Prelude.{Option, None, Some, Ok, Err}
 use Prim.Native.Nat.{ℕ, suc, ◌+◌, ◌-◌, ◌≤◌, ◌<◌}
 use native.Mathlib.Omega.{arith}
 use mathlib.Core.Path.{◌≡◌, refl, sym, ap, ap₂, ◌∙◌, subst}
@@ -25,7 +25,7 @@ use Rattle.sending.proofs.Turns.{copy-same}
 use Rattle.unrouted.specs.Rules as unr
 use Rattle.unrouted.proofs.Exact.{sweep-same}
 use Rattle.casting.specs.Rules as bro
-use Rattle.model.specs.Types.{Unicast, Unrouted, Broadcast, Settings, Action, Lapsed, Resolved, Reached, Unreached, Refusal, TimeTooLate, ResultsMismatch, NoPlace, InTheRadio, Denied, Accepted}
+use Rattle.model.specs.Types.{Unicast, Unrouted, Broadcast, Settings, Action, Lapsed, Resolved, Refusal, TimeTooLate, ResultsMismatch, NoPlace, InTheRadio, Denied, Accepted}
 use Rattle.model.specs.Model.{Model, Effect, denied}
 use Rattle.model.specs.Calls.{late, matched, unless, only, reached, routed, entering, failing, lapsed, routing, turn_unicast, cancel_unrouted, cast_bar, cancel_broadcast, cancel_of}
 use Rattle.model.specs.Sound.{SoundModel}
@@ -72,25 +72,25 @@ module _ (s : Settings) (now : ℕ) where
       → lookup unicast_id k (entering s now ts rs us) ≡ lookup unicast_id k us
   enter-other k [] rs us a = refl
   enter-other k (u ∷ ts) [] us a = refl
-  enter-other k (u ∷ ts) (Reached hop b ∷ rs) us a =
+  enter-other k (u ∷ ts) (Ok (hop, b) ∷ rs) us a =
       enter-other k ts rs (insert_by unicast_id (routed s now u hop b) us) a.1 ∙ lookup-insert-other unicast_id k (routed s now u hop b) us (a.0 refl)
-  enter-other k (u ∷ ts) (Unreached c ∷ rs) us a = enter-other k ts rs us a.1
+  enter-other k (u ∷ ts) (Err c ∷ rs) us a = enter-other k ts rs us a.1
 
   -- more actions
   met-more : (us : List Unicast) {told more : List Action} → ((x : Action) → Memᴰ x told → Memᴰ x more) → (u : Unrouted) (r : Resolved) → Met s now us told u r → Met s now us more u r
-  met-more us f u (Reached hop a) m = m
-  met-more us f u (Unreached c) m = f _ m
+  met-more us f u (Ok (hop, a)) m = m
+  met-more us f u (Err c) m = f _ m
 
   meets : (lo : ℕ) (ts : List Unrouted) (rs : List Resolved) (us : List Unicast) → Rising unrouted_id lo ts → length ts ≤ length rs
       → Each2 (Met s now (entering s now ts rs us) (failing ts rs)) ts rs
   meets lo [] rs us r l = tt
   meets lo (u ∷ ts) [] us r l = absurd (omega arith)
-  meets lo (u ∷ ts) (Reached hop a ∷ rs) us r l = (
+  meets lo (u ∷ ts) (Ok (hop, a) ∷ rs) us r l = (
     enter-other u.id ts rs (insert_by unicast_id (routed s now u hop a) us) (rising-other u.id (suc u.id) ts rs (omega arith) r.1 (omega arith))
         ∙ lookup-insert-same unicast_id (routed s now u hop a) us,
     meets (suc u.id) ts rs (insert_by unicast_id (routed s now u hop a) us) r.1 (omega arith),
   )
-  meets lo (u ∷ ts) (Unreached c ∷ rs) us r l = (
+  meets lo (u ∷ ts) (Err c ∷ rs) us r l = (
     Memᴰ.head refl,
     each2-map (met-more (entering s now ts rs us) (λ x m. Memᴰ.tail m)) ts rs (meets (suc u.id) ts rs us r.1 (omega arith)),
   )

@@ -1,5 +1,5 @@
 -- 01's calls over the send tables: for each, its refusals in 01's order, then what it makes of the lists, answers and tells.
-use Rattle.std.specs.Prelude.{ℕ, suc, ◌-◌, Bool, true, false, not, ◌&&◌, ◌||◌, List, [], ◌∷◌, ◌++◌, map, length, take, ltb, leb, eqb, Option, None, Some}
+use Rattle.std.specs.Prelude.{ℕ, suc, ◌-◌, Bool, true, false, not, ◌&&◌, ◌||◌, List, [], ◌∷◌, ◌++◌, map, length, take, ltb, leb, eqb, Option, None, Some, Ok, Err}
 use Rattle.records.specs.Pick.{pick}
 use Rattle.records.specs.Limits.{last_time, no_id, unicast_room, broadcast_room}
 use Rattle.records.specs.Priorities.{rank_of}
@@ -7,7 +7,7 @@ use Rattle.records.specs.Records.{unicast_id, unrouted_id, broadcast_id, destina
 use Rattle.records.specs.Times.{sooner}
 use Rattle.rows.specs.Lists.{insert_by, remove_by, lookup}
 use Rattle.rows.specs.Moves.{Turn, each, at_first, first_of, any_of, count, each_told, at_first_told, has_id}
-use Rattle.model.specs.Types.{Address, AckKey, QuorumKey, Schedule, Once, PassiveAck, FixedInterval, Unicast, Unrouted, Broadcast, Settings, TxResult, Entry, Code, Action, Settled, Refusal, TimeTooLate, IdsExhausted, NoCopies, NoPlace, NoSuchSend, InTheRadio, DestinationNotHeld, ResultsMismatch, Lapsed, Bound, Retry, NotHeld, Declined, Granted, NewUnicast, NewUnrouted, NewBroadcast, Resolved, Reached, Unreached, Lender, FromUnicasts, FromBroadcasts, Unicasting, Broadcasting, Answer, Issued, Replied, NothingQueued, InFlight}
+use Rattle.model.specs.Types.{Address, AckKey, QuorumKey, Schedule, Once, PassiveAck, FixedInterval, Unicast, Unrouted, Broadcast, Settings, TxResult, Entry, Code, Action, Settled, Refusal, TimeTooLate, IdsExhausted, NoCopies, NoPlace, NoSuchSend, InTheRadio, DestinationNotHeld, ResultsMismatch, Lapsed, Bound, Retry, NotHeld, Declined, Granted, NewUnicast, NewUnrouted, NewBroadcast, Resolved, Lender, FromUnicasts, FromBroadcasts, Unicasting, Broadcasting, Answer, Issued, Replied, NothingQueued, InFlight}
 use Rattle.model.specs.Model.{Model, Effect, with_unicasts, with_unrouted, with_broadcasts, denied, done, answers}
 use Rattle.sending.specs.Rules as uni
 use Rattle.sending.specs.Lists as unis
@@ -166,8 +166,8 @@ only q [] = []
 only q (x ∷ xs) = pick (q x) (x ∷ only q xs) (only q xs)
 
 abbrev pub reached : Resolved → Bool
-reached (Reached hop a) = true
-reached (Unreached c) = false
+reached (Ok (hop, a)) = true
+reached (Err c) = false
 
 -- a send as it enters the unicasts from a route: under its id, with the deadline that it was admitted with
 abbrev pub routed : Settings → ℕ → Unrouted → ℕ → Address → Unicast
@@ -178,14 +178,14 @@ routed s now u hop a =
 abbrev pub entering : Settings → ℕ → List Unrouted → List Resolved → List Unicast → List Unicast
 entering s now [] rs us = us
 entering s now (u ∷ ts) [] us = us
-entering s now (u ∷ ts) (Reached hop a ∷ rs) us = entering s now ts rs (insert_by unicast_id (routed s now u hop a) us)
-entering s now (u ∷ ts) (Unreached c ∷ rs) us = entering s now ts rs us
+entering s now (u ∷ ts) (Ok (hop, a) ∷ rs) us = entering s now ts rs (insert_by unicast_id (routed s now u hop a) us)
+entering s now (u ∷ ts) (Err c ∷ rs) us = entering s now ts rs us
 
 abbrev pub failing : List Unrouted → List Resolved → List Action
 failing [] rs = []
 failing (u ∷ ts) [] = []
-failing (u ∷ ts) (Reached hop a ∷ rs) = failing ts rs
-failing (u ∷ ts) (Unreached c ∷ rs) = Settled (unrouted_entry u) (Code c) None ∷ failing ts rs
+failing (u ∷ ts) (Ok (hop, a) ∷ rs) = failing ts rs
+failing (u ∷ ts) (Err c ∷ rs) = Settled (unrouted_entry u) (Code c) None ∷ failing ts rs
 
 -- the unrouted sends after a tick
 abbrev pub lapsed : Model → ℕ → List Unrouted

@@ -1,5 +1,5 @@
 -- What the calls are claimed to mean, in 01's words; proofs/ proves it.
-use Rattle.std.specs.Prelude.{ℕ, ◌-◌, ◌≤◌, ◌<◌, min, ◌≡◌, Bool, true, false, not, ◌&&◌, ◌||◌, ◌⊎◌, ◌↔◌, length, take, ltb, leb, eqb, Option, None, Some}
+use Rattle.std.specs.Prelude.{ℕ, ◌-◌, ◌≤◌, ◌<◌, min, ◌≡◌, Bool, true, false, not, ◌&&◌, ◌||◌, ◌⊎◌, ◌↔◌, length, take, ltb, leb, eqb, Option, None, Some, Ok, Err}
 use mathlib.Core.List.{List, [], ◌∷◌, ◌++◌, Memᴰ}
 use Rattle.records.specs.Limits.{last_time, no_id, unicast_room, unrouted_room, destination_room, broadcast_room}
 use Rattle.records.specs.Priorities.{rank_of}
@@ -16,7 +16,7 @@ use Rattle.sending.specs.Rules as uni
 use Rattle.sending.specs.Members.{map_fits}
 use Rattle.unrouted.specs.Rules as unr
 use Rattle.casting.specs.Rules as bro
-use Rattle.model.specs.Types.{Schedule, Once, PassiveAck, FixedInterval, Unicast, Unrouted, Broadcast, Settings, Code, Action, Settled, Lapsed, Resolved, Reached, Unreached, Lender, FromUnicasts, FromBroadcasts, Refusal, TimeTooLate, IdsExhausted, NoCopies, NoPlace, NoSuchSend, InTheRadio, DestinationNotHeld, ResultsMismatch, MapMalformed, Denied, Accepted, NothingQueued, InFlight, Unicasting, Broadcasting}
+use Rattle.model.specs.Types.{Schedule, Once, PassiveAck, FixedInterval, Unicast, Unrouted, Broadcast, Settings, Code, Action, Settled, Lapsed, Resolved, Lender, FromUnicasts, FromBroadcasts, Refusal, TimeTooLate, IdsExhausted, NoCopies, NoPlace, NoSuchSend, InTheRadio, DestinationNotHeld, ResultsMismatch, MapMalformed, Denied, Accepted, NothingQueued, InFlight, Unicasting, Broadcasting}
 use Rattle.model.specs.Model.{Model, Effect, with_unicasts, with_broadcasts, answers}
 use Rattle.model.specs.Calls.{late, attempt_late, reached, matched, dequeue_of, only, routed, failing, lapsed, route_of, cancel_of, wake_of}
 use Rattle.model.specs.Sound.{SoundModel}
@@ -246,8 +246,8 @@ Each2 P (x ∷ xs) (y ∷ ys) = P x y × Each2 P xs ys
 
 -- a send has its result: a success is in the unicasts under its id, an error is told as settled with its code
 abbrev pub Met : Settings → ℕ → List Unicast → List Action → Unrouted → Resolved → Type 0
-Met s now us acts u (Reached hop a) = lookup unicast_id u.id us ≡ Some (routed s now u hop a)
-Met s now us acts u (Unreached c) = Memᴰ (Settled (unrouted_entry u) (Code c) None) acts
+Met s now us acts u (Ok (hop, a)) = lookup unicast_id u.id us ≡ Some (routed s now u hop a)
+Met s now us acts u (Err c) = Memᴰ (Settled (unrouted_entry u) (Code c) None) acts
 
 pub record RouteDone (m : Model) (s : Settings) (d now : ℕ) (rs : List Resolved) (e : Effect) : Type 0 where
   -- unrouted's tick is told first, then the errors in id order

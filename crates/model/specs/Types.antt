@@ -1,4 +1,5 @@
 -- The declared types that the calls speak of, under one name.
+use Rattle.std.specs.Prelude.{ℕ, Result}
 pub use Rattle.records.specs.declared.Address.{Address}
 pub use Rattle.records.specs.declared.AckKey.{AckKey}
 pub use Rattle.records.specs.declared.QuorumKey.{QuorumKey}
@@ -9,7 +10,7 @@ pub use Rattle.records.specs.declared.Unrouted.{Unrouted}
 pub use Rattle.records.specs.declared.Destination.{Destination}
 pub use Rattle.records.specs.declared.Broadcast.{Broadcast}
 pub use Rattle.records.specs.declared.Settings.{Settings}
-pub use Rattle.records.specs.declared.TxResult.{TxResult}
+pub use Rattle.records.specs.Types.{TxResult}
 pub use Rattle.records.specs.declared.Entry.{Entry}
 pub use Rattle.records.specs.declared.Verdict.TheVariants.{Code}
 pub use Rattle.records.specs.declared.Action.{Action}
@@ -24,8 +25,6 @@ pub use Rattle.unrouted.specs.declared.Retry.TheVariants.{NotHeld, Declined, Gra
 pub use Rattle.model.specs.declared.NewUnicast.{NewUnicast}
 pub use Rattle.model.specs.declared.NewUnrouted.{NewUnrouted}
 pub use Rattle.model.specs.declared.NewBroadcast.{NewBroadcast}
-pub use Rattle.model.specs.declared.Resolved.{Resolved}
-pub use Rattle.model.specs.declared.Resolved.TheVariants.{Reached, Unreached}
 pub use Rattle.model.specs.declared.Lender.{Lender}
 pub use Rattle.model.specs.declared.Lender.TheVariants.{FromUnicasts, FromBroadcasts}
 pub use Rattle.model.specs.declared.Transmit.{Transmit}
@@ -38,3 +37,7 @@ pub use Rattle.model.specs.declared.Sends.{Sends}
 pub use Rattle.model.specs.declared.Answered.{Answered}
 pub use Rattle.model.specs.declared.Abandoned.{Abandoned}
 pub use Rattle.model.specs.declared.Emptied.{Emptied}
+
+-- what a route found for one send: its next hop and the address its device polls under, or the caller's code
+abbrev pub Resolved : Type 0
+Resolved = Result (ℕ × Address) ℕ

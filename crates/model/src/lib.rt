@@ -33,11 +33,7 @@ pub struct NewBroadcast {
 }
 
 // What a route found for one send: its next hop and the address its device polls under, or the caller's code.
-#[derive(Clone, Copy)]
-pub enum Resolved {
-    Reached(u16, Address),
-    Unreached(u16),
-}
+pub type Resolved = Result<(u16, Address), u16>;
 
 // The two tables that lend to the radio, as a report names them.
 #[derive(Clone, Copy)]

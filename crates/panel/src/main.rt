@@ -206,7 +206,7 @@ fn begin(rt: &impl Print, told: &mut [u64; 560]) -> io::Result<Gateway>
     let entered = enqueue(rt, empty, told, 0)?;
     let s = entered.sends;
     show_state(rt, s, 0)?;
-    let slept = serve_radio(rt, entered, told, TxResult::Sent, 100, 104)?;
+    let slept = serve_radio(rt, entered, told, Ok(()), 100, 104)?;
     poll(rt, slept, told, PANEL, 2000)
 }
 
@@ -214,10 +214,10 @@ fn begin(rt: &impl Print, told: &mut [u64; 560]) -> io::Result<Gateway>
 fn failing(rt: &impl Print, told: &mut [u64; 560]) -> io::Result<()> {
     words::text(rt, b"Run 1: the radio fails.\n")?;
     let polled = begin(rt, told)?;
-    let failed = serve_radio(rt, polled, told, TxResult::Failed(233), 2001, 2005)?;
+    let failed = serve_radio(rt, polled, told, Err(233), 2001, 2005)?;
     let s = failed.sends;
     show_state(rt, s, 2005)?;
-    let waiting = serve_radio(rt, failed, told, TxResult::Sent, 2010, 2014)?;
+    let waiting = serve_radio(rt, failed, told, Ok(()), 2010, 2014)?;
     let early = tick(rt, waiting, told, 7679)?;
     let expired = tick(rt, early, told, 7680)?;
     let t = expired.sends;
@@ -228,7 +228,7 @@ fn failing(rt: &impl Print, told: &mut [u64; 560]) -> io::Result<()> {
 fn working(rt: &impl Print, told: &mut [u64; 560]) -> io::Result<()> {
     words::text(rt, b"\nRun 2: the radio works.\n")?;
     let polled = begin(rt, told)?;
-    let sent = serve_radio(rt, polled, told, TxResult::Sent, 2001, 2005)?;
+    let sent = serve_radio(rt, polled, told, Ok(()), 2001, 2005)?;
     let s = sent.sends;
     show_state(rt, s, 2005)?;
     words::light(rt, sent.lit)

@@ -27,8 +27,8 @@ pub(crate) fn report(rt: &impl Print, id: u32, frame: u32, x: TxResult) -> io::R
     text(rt, b", frame ")?;
     number(rt, frame as u64)?;
     match x {
-        TxResult::Sent => text(rt, b", sent"),
-        TxResult::Failed(code) => {
+        Ok(()) => text(rt, b", sent"),
+        Err(code) => {
             text(rt, b", failed with code ")?;
             number(rt, code as u64)
         }

@@ -1,4 +1,5 @@
 -- The declared types and their variants under one name, for every definition and law that speaks of them.
+use Rattle.std.specs.Prelude.{ℕ, ⊤, Result}
 pub use Rattle.records.specs.declared.Address.{Address}
 pub use Rattle.records.specs.declared.Address.TheVariants.{Absent, Short, Extended}
 pub use Rattle.records.specs.declared.Priority.{Priority}
@@ -18,8 +19,6 @@ pub use Rattle.records.specs.declared.CopyState.{CopyState}
 pub use Rattle.records.specs.declared.CopyState.TheVariants.{Idle, CopyQueued, CopyTransmitting}
 pub use Rattle.records.specs.declared.Broadcast.{Broadcast}
 pub use Rattle.records.specs.declared.Settings.{Settings}
-pub use Rattle.records.specs.declared.TxResult.{TxResult}
-pub use Rattle.records.specs.declared.TxResult.TheVariants.{Sent, Failed}
 pub use Rattle.records.specs.declared.SendFailure.{SendFailure}
 pub use Rattle.records.specs.declared.SendFailure.TheVariants.{HandoffTimeout, ApsAckTimeout, IndirectExpired, RouteDiscoveryTimeout, BroadcastQuorumNotReached, Cancelled}
 pub use Rattle.records.specs.declared.Verdict.{Verdict}
@@ -29,3 +28,7 @@ pub use Rattle.records.specs.declared.Action.{Action}
 pub use Rattle.records.specs.declared.Action.TheVariants.{HandedOff, Settled}
 pub use Rattle.records.specs.declared.Refusal.{Refusal}
 pub use Rattle.records.specs.declared.Refusal.TheVariants.{TimeTooLate, IdsExhausted, NoCopies, NoPlace, NoSuchSend, InTheRadio, NotInTheRadio, OtherFrame, DestinationNotHeld, ResultsMismatch, MapMalformed, UnknownKind, RecordCut, FieldMalformed, AnswersDoNotFit, TraceTooLong}
+
+-- what the radio reports of a transmit: it went out, or the radio's code
+abbrev pub TxResult : Type 0
+TxResult = Result ⊤ ℕ

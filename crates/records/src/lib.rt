@@ -143,12 +143,8 @@ pub struct Settings {
     pub discovery_attempts: u8,
 }
 
-// What the radio reports of a transmit.
-#[derive(Clone, Copy, PartialEq, Eq)]
-pub enum TxResult {
-    Sent,
-    Failed(u16),
-}
+// What the radio reports of a transmit: it went out, or the radio's code.
+pub type TxResult = Result<(), u16>;
 
 // A failure that a table decides on.
 #[derive(Clone, Copy, PartialEq, Eq)]

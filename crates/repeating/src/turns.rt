@@ -1,7 +1,7 @@
 // The rules on one broadcast.
-ghost use Rattle.std.specs.Prelude.{◌≡◌, ◌≤◌};
+ghost use Rattle.std.specs.Prelude.{◌≡◌, ◌≤◌, Ok, Err};
 ghost use Rattle.records.specs.Limits.{last_time};
-ghost use Rattle.casting.specs.Types.{Sent, Failed};
+
 ghost use Rattle.casting.specs.Rules.{turn_b, first_copy, admitted_of, no_copies, in_radio, lent, cancel_turn, result_verdict, repeat_turn, report_turn, delivered_turn, over_verdict, last_verdict, over_turn, lapse_turn, due_turn, idle_turn, tick_turn};
 
 use casting::TurnB;
@@ -86,14 +86,14 @@ fn result_verdict(x: TxResult) -> Verdict
     ensures { result ≡ result_verdict x }
 {
     match x {
-        TxResult::Sent => Verdict::Success,
-        TxResult::Failed(code) => Verdict::Code(code),
+        Ok(()) => Verdict::Success,
+        Err(code) => Verdict::Code(code),
     }
 }
 
 // A copy is on the air: the first one is the handoff, unless quorum was heard already, which ends it.
 fn repeat_sent(b: Broadcast, schedule: Schedule) -> TurnB
-    ensures { turn_b result ≡ repeat_turn b schedule Sent }
+    ensures { turn_b result ≡ repeat_turn b schedule (Ok tt) }
 {
     if b.quorum_heard {
         return TurnB::SettlesB(true, Verdict::Success);
@@ -113,7 +113,7 @@ fn repeat_sent(b: Broadcast, schedule: Schedule) -> TurnB
 
 // A lost copy ends nothing: its error is kept for the case that none is handed off.
 fn repeat_failed(b: Broadcast, schedule: Schedule, code: u16) -> TurnB
-    ensures { turn_b result ≡ repeat_turn b schedule (Failed code) }
+    ensures { turn_b result ≡ repeat_turn b schedule (Err code) }
 {
     if b.quorum_heard && b.handed_off {
         return TurnB::SettlesB(true, Verdict::Success);
@@ -130,8 +130,8 @@ fn repeat(b: Broadcast, schedule: Schedule, x: TxResult) -> TurnB
     ensures { turn_b result ≡ repeat_turn b schedule x }
 {
     match x {
-        TxResult::Sent => repeat_sent(b, schedule),
-        TxResult::Failed(code) => repeat_failed(b, schedule, code),
+        Ok(()) => repeat_sent(b, schedule),
+        Err(code) => repeat_failed(b, schedule, code),
     }
 }
 

@@ -1,5 +1,5 @@
 -- Runs by computing: 01's worked example, each way to stop, refused records, and that the claims speak of something. Assumes nothing.
-use Rattle.std.specs.Prelude.{None}
+use Rattle.std.specs.Prelude.{None, Ok}
 use Prim.Native.Nat.{ℕ}
 use native.Mathlib.Omega.{arith}
 use mathlib.Core.Path.{◌≡◌, refl, sym, ap, ◌∙◌}
@@ -8,7 +8,6 @@ use lib.ListN.{length, take, drop, get_or, replicate}
 use Rattle.records.specs.Numbers.{default_settings}
 use Rattle.records.specs.declared.Priority.TheVariants.{UserNormal}
 use Rattle.records.specs.declared.Schedule.TheVariants.{Once}
-use Rattle.records.specs.declared.TxResult.TheVariants.{Sent}
 use Rattle.records.specs.declared.Verdict.TheVariants.{Success}
 use Rattle.records.specs.declared.Action.TheVariants.{Settled}
 use Rattle.model.specs.declared.Lender.TheVariants.{FromBroadcasts}
@@ -78,7 +77,7 @@ reported = sample ++ (7 ∷ 1 ∷ zeros 4 ++ (7 ∷ zeros 18))
 pub three-calls : calls_over fresh_world (reads_of reported 64)
     ≡ EnqueueBroadcast default_settings (record { frame = 7; waiter = 9; priority = UserNormal; schedule = Once }) 0
     ∷ Dequeue 0
-    ∷ Transmitted FromBroadcasts 0 7 Sent 0 0 ∷ []
+    ∷ Transmitted FromBroadcasts 0 7 (Ok tt) 0 0 ∷ []
 unfolding went_over body_of event_of broadcast_of dequeue_of report_of results_in
 three-calls = refl
 

@@ -8,7 +8,7 @@ use Rattle.records.specs.declared.Entry.{Entry}
 use Rattle.records.specs.declared.Action.{Action}
 use Rattle.records.specs.declared.Action.TheVariants.{HandedOff, Settled}
 use Rattle.rows.specs.Moves.{count, settled_of}
-use Rattle.model.specs.declared.Resolved.{Resolved}
+use Rattle.model.specs.Types.{Resolved}
 use Rattle.model.specs.Model.{Model, fresh_of}
 use Rattle.model.specs.Steps.{Call, after}
 use Rattle.model.specs.Steps.Call.{EnqueueUnicast, EnqueueCopy, EnqueueUnrouted, EnqueueBroadcast, Dequeue, Transmitted, Poll, AckReceived, RetryDiscovery, FailUnrouted, RouteUnicasts, Delivered, DropIndirect, Cancel, Tick, Abandon, NextWake, Destinations, AwaitingQuorum, PollAddresses, HasUnrouted, HasAwaiting}

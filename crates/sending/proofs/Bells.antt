@@ -1,5 +1,5 @@
 -- 01's boundary cases of one unicast, on either side of the bell, by computation: at any handles, and any id, priority and hop where these do not matter.
-use Rattle.std.specs.Prelude.{None, Some}
+use Rattle.std.specs.Prelude.{None, Some, Err}
 use Prim.Native.Nat.{ℕ}
 use mathlib.Core.Path.{◌≡◌, refl}
 use mathlib.Core.Bool.{true, false}
@@ -8,7 +8,7 @@ use Rattle.records.specs.Numbers.{default_settings}
 use Rattle.records.specs.declared.Priority.TheVariants.{UserNormal, UserHigh}
 use Rattle.rows.specs.Moves.{at_first}
 use Rattle.rows.specs.Moves.Turn.{Keeps, Settles}
-use Rattle.sending.specs.Types.{Address, Absent, Short, Priority, AckKey, Confirm, ApsAck, Queued, Transmitting, Retrying, AwaitingPoll, Unicast, Failed, HandoffTimeout, Success, Failure, Code}
+use Rattle.sending.specs.Types.{Address, Absent, Short, Priority, AckKey, Confirm, ApsAck, Queued, Transmitting, Retrying, AwaitingPoll, Unicast, HandoffTimeout, Success, Failure, Code}
 use Rattle.sending.specs.Rules.{remade_of, with_stage, admitted_of, keyed, ack_turn, report_turn, tick_turn, beside}
 use Rattle.sending.specs.Lists.{best_of}
 
@@ -31,21 +31,21 @@ module _ (id frame waiter : ℕ) (p : Priority) (hop : ℕ) where
   pub c3-marks : (key : AckKey) (wait : ℕ) (a : Address) → ack_turn (with_stage (sent (ApsAck key wait) a) (Transmitting false)) ≡ Keeps (with_stage (sent (ApsAck key wait) a) (Transmitting true))
   c3-marks key wait a = refl
 
-  pub c3-settles : (key : AckKey) (wait code now delay : ℕ) (a : Address) → report_turn (Failed code) now delay (with_stage (sent (ApsAck key wait) a) (Transmitting true)) ≡ Settles false Success None
+  pub c3-settles : (key : AckKey) (wait code now delay : ℕ) (a : Address) → report_turn (Err code) now delay (with_stage (sent (ApsAck key wait) a) (Transmitting true)) ≡ Settles false Success None
   c3-settles key wait code now delay a = refl
 
   -- C4: held and failed one before its deadline it awaits; at its deadline it is settled, with no hop
-  pub c4-awaits : (k : Confirm) (n code delay : ℕ) → report_turn (Failed code) 7679 delay (with_stage (sent k (Short n)) (Transmitting false)) ≡ Keeps (sent k (Short n))
+  pub c4-awaits : (k : Confirm) (n code delay : ℕ) → report_turn (Err code) 7679 delay (with_stage (sent k (Short n)) (Transmitting false)) ≡ Keeps (sent k (Short n))
   c4-awaits k n code delay = refl
 
-  pub c4-settles : (k : Confirm) (n code delay : ℕ) → report_turn (Failed code) 7680 delay (with_stage (sent k (Short n)) (Transmitting false)) ≡ Settles false (Code code) None
+  pub c4-settles : (k : Confirm) (n code delay : ℕ) → report_turn (Err code) 7680 delay (with_stage (sent k (Short n)) (Transmitting false)) ≡ Settles false (Code code) None
   c4-settles k n code delay = refl
 
   -- C5: failed at 100 with a delay of 50: a tick at 149 leaves it, and one at 150 queues it
   abbrev retry : Confirm → Unicast
   retry k = remade_of (sent k Absent) p 2 (Retrying 150) 8000
 
-  pub c5-fails : (k : Confirm) (code : ℕ) → report_turn (Failed code) 100 50 (with_stage (sent k Absent) (Transmitting false)) ≡ Keeps (retry k)
+  pub c5-fails : (k : Confirm) (code : ℕ) → report_turn (Err code) 100 50 (with_stage (sent k Absent) (Transmitting false)) ≡ Keeps (retry k)
   c5-fails k code = refl
 
   pub c5-before : (k : Confirm) → tick_turn 149 (retry k) ≡ Keeps (retry k)

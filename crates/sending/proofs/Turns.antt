@@ -1,5 +1,5 @@
 -- What the tests of the code say of a send's turn; each rule keeps the entry; a sweep by heads is 01's rule; what a call need not look at. Assumes nothing.
-use Rattle.std.specs.Prelude.{Option, None, Some}
+use Rattle.std.specs.Prelude.{Option, None, Some, Ok, Err}
 use Prim.Native.Nat.{ℕ}
 use mathlib.Core.Path.{◌≡◌, refl, sym, ap, ◌∙◌}
 use mathlib.Core.Bool.{Bool, true, false, not, ◌&&◌, ◌||◌}
@@ -11,7 +11,7 @@ use Rattle.records.specs.Records.{unicast_entry}
 use Rattle.rows.specs.Moves.Turn.{Keeps, Settles}
 use Rattle.rows.specs.Moves.{Same, any_of}
 use Rattle.tables.specs.Layouts.{unicast_head}
-use Rattle.sending.specs.Types.{Address, Absent, Short, Extended, AckKey, Confirm, OnHandoff, ApsAck, Stage, Queued, Transmitting, Retrying, AwaitingPoll, AwaitingApsAck, Unicast, TxResult, Sent, Failed, ApsAckTimeout, Cancelled, Failure, UnicastHead, Due, Leave, Requeue, Finish, Which, Lapsed, Dropped, CopyOf, Sought}
+use Rattle.sending.specs.Types.{Address, Absent, Short, Extended, AckKey, Confirm, OnHandoff, ApsAck, Stage, Queued, Transmitting, Retrying, AwaitingPoll, AwaitingApsAck, Unicast, TxResult, ApsAckTimeout, Cancelled, Failure, UnicastHead, Due, Leave, Requeue, Finish, Which, Lapsed, Dropped, CopyOf, Sought}
 use Rattle.sending.specs.Rules.{with_stage, is_awaiting, is_acking, lend_turn, poll_turn, keyed_by, keyed, ack_by, ack_turn, hand_off_by, fail_held, fail_by, report_sent, report_by, report_turn, unsent, requeued, lapse_by, lapse_turn, tick_turn, retries, stirs, under, drop_turn, cancel_turn, copies, copy_turn, pending_head, names, beside, sought_head, sought, tick_due, due_head, due_turn, sweep_turn}
 
 -- ---- what the code read
@@ -63,9 +63,9 @@ report-same r now delay u = go u.stage
     failed code (Extended n) = held code
 
     sent : (acked : Bool) (x : TxResult) → Same unicast_entry u (report_sent u acked x now delay)
-    sent acked Sent = handed acked u.confirm
-    sent true (Failed code) = handed true u.confirm
-    sent false (Failed code) = failed code u.poll_address
+    sent acked (Ok _) = handed acked u.confirm
+    sent true (Err code) = handed true u.confirm
+    sent false (Err code) = failed code u.poll_address
 
     go : (s : Stage) → Same unicast_entry u (report_by u r now delay s)
     go Queued = refl

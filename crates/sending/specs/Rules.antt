@@ -1,5 +1,5 @@
 -- 01's rules of unicasts, on one send: what each call makes of it, as a turn, and what is asked of it.
-use Rattle.std.specs.Prelude.{ℕ, ◌+◌, ◌-◌, Bool, true, false, not, ◌&&◌, ◌||◌, ltb, leb, eqb, Option, None, Some}
+use Rattle.std.specs.Prelude.{ℕ, ◌+◌, ◌-◌, Bool, true, false, not, ◌&&◌, ◌||◌, ltb, leb, eqb, Option, None, Some, Ok, Err}
 use Rattle.records.specs.Pick.{pick}
 use Rattle.records.specs.Priorities.{rank_of}
 use Rattle.records.specs.Same.{same_address, same_ack_key}
@@ -7,7 +7,7 @@ use Rattle.records.specs.Times.{sooner}
 use Rattle.rows.specs.Moves.{Turn}
 use Rattle.rows.specs.Moves.Turn.{Keeps, HandsOff, Settles}
 use Rattle.tables.specs.Layouts.{unicast_head}
-use Rattle.sending.specs.Types.{Address, Absent, Short, Extended, Priority, StackCritical, AckKey, Confirm, OnHandoff, ApsAck, Stage, Queued, Transmitting, Retrying, AwaitingPoll, AwaitingApsAck, Unicast, Settings, TxResult, Sent, Failed, SendFailure, HandoffTimeout, ApsAckTimeout, IndirectExpired, Cancelled, Verdict, Success, Failure, Code, UnicastHead, UnicastTurn, KeepsU, HandsOffU, SettlesU, Due, Leave, Requeue, Finish, Which, Lapsed, Dropped, CopyOf, Sought, Pending, Beside, SentCopy}
+use Rattle.sending.specs.Types.{Address, Absent, Short, Extended, Priority, StackCritical, AckKey, Confirm, OnHandoff, ApsAck, Stage, Queued, Transmitting, Retrying, AwaitingPoll, AwaitingApsAck, Unicast, Settings, TxResult, SendFailure, HandoffTimeout, ApsAckTimeout, IndirectExpired, Cancelled, Verdict, Success, Failure, Code, UnicastHead, UnicastTurn, KeepsU, HandsOffU, SettlesU, Due, Leave, Requeue, Finish, Which, Lapsed, Dropped, CopyOf, Sought, Pending, Beside, SentCopy}
 
 -- the turn that a rule of the code answers
 abbrev pub turn_u : UnicastTurn → Turn Unicast
@@ -170,8 +170,8 @@ fail_by u code now delay (Extended n) = fail_held u code now
 
 -- success, or any result after an ack, hands off
 abbrev pub report_sent : Unicast → Bool → TxResult → ℕ → ℕ → Turn Unicast
-report_sent u acked Sent now delay = hand_off u acked now
-report_sent u acked (Failed code) now delay = pick acked (hand_off u acked now) (fail_by u code now delay u.poll_address)
+report_sent u acked (Ok _) now delay = hand_off u acked now
+report_sent u acked (Err code) now delay = pick acked (hand_off u acked now) (fail_by u code now delay u.poll_address)
 
 -- a report is only taken on a send in the radio
 abbrev pub report_by : Unicast → TxResult → ℕ → ℕ → Stage → Turn Unicast

@@ -10,8 +10,7 @@ pub use Rattle.records.specs.declared.Stage.{Stage}
 pub use Rattle.records.specs.declared.Stage.TheVariants.{Queued, Transmitting, Retrying, AwaitingPoll, AwaitingApsAck}
 pub use Rattle.records.specs.declared.Unicast.{Unicast}
 pub use Rattle.records.specs.declared.Settings.{Settings}
-pub use Rattle.records.specs.declared.TxResult.{TxResult}
-pub use Rattle.records.specs.declared.TxResult.TheVariants.{Sent, Failed}
+pub use Rattle.records.specs.Types.{TxResult}
 pub use Rattle.records.specs.declared.SendFailure.{SendFailure}
 pub use Rattle.records.specs.declared.SendFailure.TheVariants.{HandoffTimeout, ApsAckTimeout, IndirectExpired, Cancelled}
 pub use Rattle.records.specs.declared.Verdict.{Verdict}

@@ -16,7 +16,7 @@ use Rattle.events.specs.Routes.{entries_right, route_of}
 use Rattle.events.specs.declared.Event.TheVariants.{OnUnicast, OnCopy, OnUnrouted, OnBroadcast, OnReport, OnPoll, OnAck, OnRoute, OnDrop, OnHasAwaiting, Malformed}
 use Rattle.records.specs.declared.AckKey.{AckKey}
 use Rattle.records.specs.declared.Address.{Address}
-use Rattle.records.specs.declared.TxResult.{TxResult}
+use Rattle.records.specs.Types.{TxResult}
 use Rattle.model.specs.declared.NewUnicast.{NewUnicast}
 use Rattle.model.specs.declared.NewUnrouted.{NewUnrouted}
 use Rattle.model.specs.declared.NewBroadcast.{NewBroadcast}

@@ -220,8 +220,8 @@ fn sent_turn(u: Unicast, acked: bool, res: TxResult, clock: u64, delay: u32) -> 
     ensures { turn_u result ≡ report_sent u acked res clock delay }
 {
     match res {
-        TxResult::Failed(code) if !acked => fail_turn(u, code, clock, delay),
-        TxResult::Sent | TxResult::Failed(_) => hand_off(u, acked, clock),
+        Err(code) if !acked => fail_turn(u, code, clock, delay),
+        Ok(()) | Err(_) => hand_off(u, acked, clock),
     }
 }
 
