@@ -4,10 +4,9 @@ ghost use Rattle.records.specs.declared.SendFailure.TheVariants.{ApsAckTimeout};
 ghost use Rattle.sending.specs.declared.Due.TheVariants.{Leave};
 ghost use Rattle.sending.specs.Rules.{unsent, under, copies_by, pending_head, pends_head, beside_head, sent_copy_head, sought_head, lapse_due, retry_due, tick_due, drop_due, copy_due, due_head, better_of, wake_head};
 
-use records::{Address, Priority, SendFailure, Stage, compare, priorities, times};
+use records::{Address, SendFailure, Stage, compare, priorities, times};
 use sending::{Due, Sought, Which};
 use tables::unicast_rows::UnicastHead;
-use turning::rules;
 
 // ---- what a scan asks
 
@@ -55,7 +54,7 @@ fn is_beside(h: UnicastHead, id: u32, a: Address) -> bool
 fn is_sent_copy(h: UnicastHead, id: u32) -> bool
     ensures { result ≡ sent_copy_head id h }
 {
-    is_copy(h.copy_of, id) && rules::is_sending(h.stage)
+    is_copy(h.copy_of, id) && turning::rules::is_sending(h.stage)
 }
 
 pub fn is_sought(h: UnicastHead, what: Sought) -> bool
@@ -126,7 +125,7 @@ fn tick_due(h: UnicastHead, clock: u64) -> Due
 fn drop_due(h: UnicastHead, eui: Option<u64>, nwk: u16) -> Due
     ensures { result ≡ drop_due eui nwk h }
 {
-    if rules::is_awaiting(h.stage) && is_under(h.poll_address, eui, Some(nwk)) {
+    if turning::rules::is_awaiting(h.stage) && is_under(h.poll_address, eui, Some(nwk)) {
         Due::Finish(false, unsent_failure(h.poll_address))
     } else {
         Due::Leave
@@ -137,7 +136,7 @@ fn copy_due(h: UnicastHead, id: u32) -> Due
     ensures { result ≡ copy_due id h }
 {
     if is_copy(h.copy_of, id) {
-        Due::Finish(rules::is_acking(h.stage), SendFailure::Cancelled)
+        Due::Finish(turning::rules::is_acking(h.stage), SendFailure::Cancelled)
     } else {
         Due::Leave
     }

@@ -1,2 +1,3 @@
 pub mod Scans
-pub mod Places
+mod Chains
+mod Maps

@@ -8,37 +8,19 @@ ghost use Rattle.tables.specs.Layouts.{unicast_table};
 ghost use Rattle.sending.specs.Rules.{keyed, awaits, stirs, sought, pends, beside, sent_copy};
 ghost use Rattle.sending.specs.Lists.{best_step, best_of, wake_of};
 
-use records::{AckKey, Address, Priority, Stage};
+use records::{AckKey, Address, Stage};
 use sending::Sought;
-
-// Where the oldest send stands that is sought.
-fn first_such(w: &[u64; 320], n: usize, what: Sought) -> Option<usize>
-    requires { Held unicast_table w.now n }
-    ensures { result ≡ first_at (sought what) (live unicast_table w.now n) }
-{
-    let mut i: usize = 0;
-    while i < n {
-        if asking::rules::is_sought(tables::unicast_rows::head(w, i), what) {
-            return Some(i);
-        }
-        i = i + 1;
-    }
-    None
-}
+use tables::unicast_rows;
 
 // Where the oldest send stands that an ack with that key confirms, in whatever stage.
 pub fn first_keyed(w: &[u64; 320], n: usize, key: AckKey) -> Option<usize>
     requires { Held unicast_table w.now n }
     ensures { result ≡ first_at (keyed key) (live unicast_table w.now n) }
 {
-    let mut at: usize = 0;
-    while at < n {
-        if turning::rules::is_keyed(tables::unicast_rows::confirm(w, at), key) {
-            return Some(at);
-        }
-        at = at + 1;
+    match (0..n).find(|i| turning::rules::is_keyed(unicast_rows::confirm(w, *i), key)) {
+        Some(i) => Some(i),
+        None => None,
     }
-    None
 }
 
 // Whether the send at a place awaits a poll of the device with these addresses.
@@ -46,12 +28,9 @@ fn awaited_at(w: &[u64; 320], at: usize, eui: Option<u64>, nwk: Option<u16>, clo
     requires { at < 32 }
     ensures { result ≡ awaits eui nwk clock (get_or (rows_of unicast_table w.now) at blank_unicast) }
 {
-    if turning::rules::is_awaiting(tables::unicast_rows::stage(w, at)) {
-        if clock < tables::unicast_rows::deadline(w, at) {
-            return asking::rules::is_under(tables::unicast_rows::address(w, at), eui, nwk);
-        }
-    }
-    false
+    turning::rules::is_awaiting(unicast_rows::stage(w, at))
+        && clock < unicast_rows::deadline(w, at)
+        && asking::rules::is_under(unicast_rows::address(w, at), eui, nwk)
 }
 
 // Where the oldest send stands that awaits a poll of the device.
@@ -65,14 +44,10 @@ pub fn first_awaited(
     requires { Held unicast_table w.now n }
     ensures { result ≡ first_at (awaits eui nwk clock) (live unicast_table w.now n) }
 {
-    let mut k: usize = 0;
-    while k < n {
-        if awaited_at(w, k, eui, nwk, clock) {
-            return Some(k);
-        }
-        k = k + 1;
+    match (0..n).find(|at| awaited_at(w, *at, eui, nwk, clock)) {
+        Some(at) => Some(at),
+        None => None,
     }
-    None
 }
 
 // Whether a tick may change the send at a place.
@@ -80,16 +55,8 @@ fn stirs_at(w: &[u64; 320], i: usize, clock: u64) -> bool
     requires { i < 32 }
     ensures { result ≡ stirs clock (get_or (rows_of unicast_table w.now) i blank_unicast) }
 {
-    if tables::unicast_rows::deadline(w, i) <= clock {
-        return true;
-    }
-    match tables::unicast_rows::stage(w, i) {
-        Stage::Queued => false,
-        Stage::Transmitting(_) => false,
-        Stage::Retrying(at) => at <= clock,
-        Stage::AwaitingPoll => false,
-        Stage::AwaitingApsAck => false,
-    }
+    unicast_rows::deadline(w, i) <= clock
+        || matches!(unicast_rows::stage(w, i), Stage::Retrying(at) if at <= clock)
 }
 
 // Whether there is a send that a tick may change.
@@ -97,24 +64,14 @@ pub fn any_stirs(w: &[u64; 320], n: usize, clock: u64) -> bool
     requires { Held unicast_table w.now n }
     ensures { result ≡ any_of (stirs clock) (live unicast_table w.now n) }
 {
-    let mut j: usize = 0;
-    while j < n {
-        if stirs_at(w, j, clock) {
-            return true;
-        }
-        j = j + 1;
-    }
-    false
+    (0..n).any(|i| stirs_at(w, i, clock))
 }
 
 fn any_such(w: &[u64; 320], n: usize, what: Sought) -> bool
     requires { Held unicast_table w.now n }
     ensures { result ≡ any_of (sought what) (live unicast_table w.now n) }
 {
-    match first_such(w, n, what) {
-        Some(_) => true,
-        None => false,
-    }
+    (0..n).any(|i| asking::rules::is_sought(unicast_rows::head(w, i), what))
 }
 
 // Whether a send awaits, is queued or in the radio for a device under that address.
@@ -132,8 +89,7 @@ pub fn frame_pending(w: &[u64; 320], n: usize, id: u32, a: Address) -> bool
 {
     match a {
         Address::Absent => false,
-        Address::Short(_) => any_such(w, n, Sought::Beside(id, a)),
-        Address::Extended(_) => any_such(w, n, Sought::Beside(id, a)),
+        Address::Short(_) | Address::Extended(_) => any_such(w, n, Sought::Beside(id, a)),
     }
 }
 
@@ -155,12 +111,13 @@ fn best_at(
     requires { i < 32 }
     ensures { result ≡ best_step clock (get_or (rows_of unicast_table w.now) i blank_unicast) best }
 {
-    if turning::rules::is_queued(tables::unicast_rows::stage(w, i)) {
-        if clock < tables::unicast_rows::deadline(w, i) {
-            return asking::rules::better_of(tables::unicast_rows::head(w, i), best);
-        }
+    if turning::rules::is_queued(unicast_rows::stage(w, i))
+        && clock < unicast_rows::deadline(w, i)
+    {
+        asking::rules::better_of(unicast_rows::head(w, i), best)
+    } else {
+        best
     }
-    best
 }
 
 // The queued, unexpired send of highest priority, and of these the oldest.
@@ -168,13 +125,9 @@ pub fn best_queued(w: &[u64; 320], n: usize, clock: u64) -> Option<(u32, Priorit
     requires { Held unicast_table w.now n }
     ensures { result ≡ best_of clock (live unicast_table w.now n) }
 {
-    let mut best = None;
-    let mut i = n;
-    while 0 < i {
-        best = best_at(w, i - 1, clock, best);
-        i = i - 1;
-    }
-    best
+    (0..n)
+        .rev()
+        .fold(None, |best, i| best_at(w, i, clock, best))
 }
 
 // When the next deadline or retry is due.
@@ -182,11 +135,7 @@ pub fn next_wake(w: &[u64; 320], n: usize) -> Option<u64>
     requires { Held unicast_table w.now n }
     ensures { result ≡ wake_of (live unicast_table w.now n) }
 {
-    let mut wake = None;
-    let mut left = n;
-    while 0 < left {
-        wake = asking::rules::wake_with(tables::unicast_rows::head(w, left - 1), wake);
-        left = left - 1;
-    }
-    wake
+    (0..n).rev().fold(None, |wake, i| {
+        asking::rules::wake_with(unicast_rows::head(w, i), wake)
+    })
 }

@@ -5,75 +5,42 @@ ghost use Rattle.rows.specs.Tables.{live, Held};
 ghost use Rattle.tables.specs.Layouts.{unicast_table};
 ghost use Rattle.sending.specs.Members.{rises_all, map_fits, mapped_in, member_head, is_past, least_with, next_member, listing_of};
 
-use records::{Address, Refusal};
+use records::{Address, Refusal, times};
 use sending::Book;
-use tables::unicast_rows::UnicastHead;
+use tables::unicast_rows::{self, UnicastHead};
 
 fn rises(eui: &[u64]) -> bool
     ensures { result ≡ rises_all eui.now }
 {
-    let k = eui.len();
-    if k == 0 {
-        return true;
-    }
-    let mut last = eui[0];
-    let mut i: usize = 1;
-    while i < k {
-        let x = eui[i];
-        if x <= last {
-            return false;
-        }
-        last = x;
-        i = i + 1;
-    }
-    true
+    eui.is_sorted_by(|a, b| a < b)
 }
 
 // Whether the slices are an address map; a call with others is refused.
 pub fn map_fits(eui: &[u64], nwk: &[u16]) -> bool
     ensures { result ≡ map_fits eui.now nwk.now }
 {
-    if eui.len() == nwk.len() {
-        return rises(eui);
-    }
-    false
+    eui.len() == nwk.len() && rises(eui)
 }
 
 // The short address that x is mapped to.
 fn mapped(eui: &[u64], nwk: &[u16], x: u64) -> Option<u64>
     ensures { result ≡ mapped_in x eui.now nwk.now }
 {
-    let k = eui.len();
-    let l = nwk.len();
-    let mut i: usize = 0;
-    while i < k {
-        if l <= i {
-            return None;
-        }
-        if eui[i] == x {
-            return Some(nwk[i] as u64);
-        }
-        i = i + 1;
+    match eui.iter().zip(nwk).find(|(e, _)| **e == x) {
+        Some((_, short)) => Some(u64::from(*short)),
+        None => None,
     }
-    None
 }
 
 // What a send puts into a set.
 fn member_of(h: UnicastHead, book: Book, eui: &[u64], nwk: &[u16]) -> Option<u64>
     ensures { result ≡ member_head book eui.now nwk.now h }
 {
-    let a = asking::rules::pending_for(h);
-    match book {
-        Book::Shorts => match a {
-            Address::Absent => None,
-            Address::Short(n) => Some(n as u64),
-            Address::Extended(x) => mapped(eui, nwk, x),
-        },
-        Book::Longs => match a {
-            Address::Absent => None,
-            Address::Short(_) => None,
-            Address::Extended(x) => Some(x),
-        },
+    match (book, asking::rules::pending_for(h)) {
+        (Book::Shorts, Address::Short(n)) => Some(u64::from(n)),
+        (Book::Shorts, Address::Extended(x)) => mapped(eui, nwk, x),
+        (Book::Longs, Address::Extended(x)) => Some(x),
+        (_, Address::Absent) | (Book::Longs, Address::Short(_)) => None,
     }
 }
 
@@ -90,13 +57,8 @@ fn least_with(last: Option<u64>, m: Option<u64>, b: Option<u64>) -> Option<u64>
     ensures { result ≡ least_with last m b }
 {
     match m {
-        None => b,
-        Some(x) => {
-            if is_past(last, x) {
-                return records::times::sooner_of(x, b);
-            }
-            b
-        }
+        Some(x) if is_past(last, x) => times::sooner_of(x, b),
+        None | Some(_) => b,
     }
 }
 
@@ -112,14 +74,10 @@ pub fn next_member(
     requires { Held unicast_table w.now n }
     ensures { result ≡ next_member book eui.now nwk.now last (live unicast_table w.now n) }
 {
-    let mut least = None;
-    let mut i = n;
-    while 0 < i {
-        let m = member_of(tables::unicast_rows::head(w, i - 1), book, eui, nwk);
-        least = least_with(last, m, least);
-        i = i - 1;
-    }
-    least
+    (0..n).rev().fold(None, |least, i| {
+        let member = member_of(unicast_rows::head(w, i), book, eui, nwk);
+        least_with(last, member, least)
+    })
 }
 
 // The next member of a source-match set, refused where the slices are no address map.
@@ -134,11 +92,11 @@ pub fn source_match(
     requires { Held unicast_table w.now n }
     ensures { result ≡ listing_of (map_fits eui.now nwk.now) (next_member book eui.now nwk.now last (live unicast_table w.now n)) }
 {
-    if map_fits(eui, nwk) {
-        return match next_member(w, n, book, eui, nwk, last) {
-            None => Ok(None),
-            Some(x) => Ok(Some(x)),
-        };
+    if !map_fits(eui, nwk) {
+        return Err(Refusal::MapMalformed);
     }
-    Err(Refusal::MapMalformed)
+    match next_member(w, n, book, eui, nwk, last) {
+        None => Ok(None),
+        Some(x) => Ok(Some(x)),
+    }
 }

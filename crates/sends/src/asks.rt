@@ -7,8 +7,10 @@ ghost use Rattle.model.specs.Model.{fresh_of, model_of, sends_of};
 ghost use Rattle.model.specs.Calls.{wake_of};
 ghost use Rattle.model.specs.Sound.{Sound};
 
+use lent::ends;
 use model::{Counts, Sends};
 use records::{Address, Broadcast, Destination, Unicast, Unrouted};
+use scanning::asks;
 
 // Tables with no send; the first id they issue is given.
 pub fn fresh(first: u32) -> Sends
@@ -35,12 +37,7 @@ pub fn next_wake(s: Sends) -> Option<u64>
     requires { Sound s }
     ensures { result ≡ wake_of (model_of s) }
 {
-    let c = s.counts;
-    let w = s.unicasts;
-    let v = s.unrouted;
-    let d = s.held;
-    let b = s.broadcasts;
-    lent::ends::next_wake(c, &w, &v, &d, &b)
+    ends::next_wake(s.counts, &s.unicasts, &s.unrouted, &s.held, &s.broadcasts)
 }
 
 // Whether the destination is held: its discovery is under way.
@@ -48,9 +45,7 @@ pub fn has_unrouted(s: Sends, destination: u16) -> bool
     requires { Sound s }
     ensures { result ≡ is_held destination (model_of s).held }
 {
-    let c = s.counts;
-    let d = s.held;
-    unrouted::is_held(&d, c.held, destination)
+    unrouted::is_held(&s.held, s.counts.held, destination)
 }
 
 // Whether a send awaits a poll of that address, is queued for it or in the radio.
@@ -58,7 +53,5 @@ pub fn has_unicast_awaiting_poll(s: Sends, a: Address) -> bool
     requires { Sound s }
     ensures { result ≡ any_of (pends a) (model_of s).unicasts }
 {
-    let c = s.counts;
-    let w = s.unicasts;
-    scanning::asks::has_awaiting(&w, c.unicasts, a)
+    asks::has_awaiting(&s.unicasts, s.counts.unicasts, a)
 }

@@ -8,6 +8,9 @@ ghost use Rattle.model.specs.Calls.{enqueue_unicast_of, enqueue_copy_of, enqueue
 ghost use Rattle.model.specs.Sound.{Sound, Leaving};
 ghost use Rattle.sends.specs.Lists.{answered_by};
 
+use admitting::{enqueues, routes};
+use lending::radio;
+use lent::{devices, ends};
 use model::{Answered, Did, Lender, NewBroadcast, NewUnicast, NewUnrouted, Resolved, Sends};
 use records::{AckKey, QuorumKey, Settings, TxResult};
 
@@ -15,27 +18,22 @@ pub mod asks;
 pub mod lists;
 
 // What a call on lent tables gave back, with the tables.
-fn answered(x: Did, w: [u64; 320], v: [u64; 112], d: [u64; 32], b: [u64; 112]) -> Answered
-    ensures { result ≡ answered_by x w v d b }
+fn answered(s: Sends, x: Did) -> Answered
+    ensures { result ≡ answered_by x s.unicasts s.unrouted s.held s.broadcasts }
 {
-    let n = x.counts;
-    let a = x.answer;
     Answered {
         sends: Sends {
-            counts: n,
-            unicasts: w,
-            unrouted: v,
-            held: d,
-            broadcasts: b,
+            counts: x.counts,
+            ..s
         },
-        answer: a,
+        answer: x.answer,
         told: x.told,
     }
 }
 
 // A unicast with a known next hop: refused with 1, 2 or 4, or its id is issued.
 pub fn enqueue_unicast(
-    s: Sends,
+    mut s: Sends,
     told: &mut [u64; 560],
     settings: Settings,
     u: NewUnicast,
@@ -45,20 +43,23 @@ pub fn enqueue_unicast(
     ensures value { result ≡ answered_of (enqueue_unicast_of (model_of s) settings u clock) }
     ensures leaving { Leaving (enqueue_unicast_of (model_of s) settings u clock) told.old told.new result }
 {
-    let c = s.counts;
-    let mut w = s.unicasts;
-    let mut v = s.unrouted;
-    let mut d = s.held;
-    let mut b = s.broadcasts;
-    let x = admitting::enqueues::enqueue_unicast(
-        c, &mut w, &mut v, &mut d, &mut b, told, settings, u, clock,
+    let x = enqueues::enqueue_unicast(
+        s.counts,
+        &mut s.unicasts,
+        &mut s.unrouted,
+        &mut s.held,
+        &mut s.broadcasts,
+        told,
+        settings,
+        u,
+        clock,
     );
-    answered(x, w, v, d, b)
+    answered(s, x)
 }
 
 // A broadcast's copy for one sleepy child; it may name any id.
 pub fn enqueue_broadcast_copy(
-    s: Sends,
+    mut s: Sends,
     told: &mut [u64; 560],
     settings: Settings,
     broadcast: u32,
@@ -69,21 +70,25 @@ pub fn enqueue_broadcast_copy(
     ensures value { result ≡ answered_of (enqueue_copy_of (model_of s) settings broadcast u clock) }
     ensures leaving { Leaving (enqueue_copy_of (model_of s) settings broadcast u clock) told.old told.new result }
 {
-    let c = s.counts;
-    let mut w = s.unicasts;
-    let mut v = s.unrouted;
-    let mut d = s.held;
-    let mut b = s.broadcasts;
-    let x = admitting::enqueues::enqueue_broadcast_copy(
-        c, &mut w, &mut v, &mut d, &mut b, told, settings, broadcast, u, clock,
+    let x = enqueues::enqueue_broadcast_copy(
+        s.counts,
+        &mut s.unicasts,
+        &mut s.unrouted,
+        &mut s.held,
+        &mut s.broadcasts,
+        told,
+        settings,
+        broadcast,
+        u,
+        clock,
     );
-    answered(x, w, v, d, b)
+    answered(s, x)
 }
 
 // A unicast with no route yet, held until its destination's discovery ends. The caller starts that discovery if the destination
 // was not held.
 pub fn enqueue_unrouted_unicast(
-    s: Sends,
+    mut s: Sends,
     told: &mut [u64; 560],
     settings: Settings,
     u: NewUnrouted,
@@ -93,20 +98,23 @@ pub fn enqueue_unrouted_unicast(
     ensures value { result ≡ answered_of (enqueue_unrouted_of (model_of s) settings u clock) }
     ensures leaving { Leaving (enqueue_unrouted_of (model_of s) settings u clock) told.old told.new result }
 {
-    let c = s.counts;
-    let mut w = s.unicasts;
-    let mut v = s.unrouted;
-    let mut d = s.held;
-    let mut b = s.broadcasts;
-    let x = admitting::enqueues::enqueue_unrouted_unicast(
-        c, &mut w, &mut v, &mut d, &mut b, told, settings, u, clock,
+    let x = enqueues::enqueue_unrouted_unicast(
+        s.counts,
+        &mut s.unicasts,
+        &mut s.unrouted,
+        &mut s.held,
+        &mut s.broadcasts,
+        told,
+        settings,
+        u,
+        clock,
     );
-    answered(x, w, v, d, b)
+    answered(s, x)
 }
 
 // A broadcast, sent once or repeated on its schedule: refused with 1, 3, 2 or 4, or its id is issued.
 pub fn enqueue_broadcast(
-    s: Sends,
+    mut s: Sends,
     told: &mut [u64; 560],
     settings: Settings,
     u: NewBroadcast,
@@ -116,36 +124,42 @@ pub fn enqueue_broadcast(
     ensures value { result ≡ answered_of (enqueue_broadcast_of (model_of s) settings u clock) }
     ensures leaving { Leaving (enqueue_broadcast_of (model_of s) settings u clock) told.old told.new result }
 {
-    let c = s.counts;
-    let mut w = s.unicasts;
-    let mut v = s.unrouted;
-    let mut d = s.held;
-    let mut b = s.broadcasts;
-    let x = admitting::enqueues::enqueue_broadcast(
-        c, &mut w, &mut v, &mut d, &mut b, told, settings, u, clock,
+    let x = enqueues::enqueue_broadcast(
+        s.counts,
+        &mut s.unicasts,
+        &mut s.unrouted,
+        &mut s.held,
+        &mut s.broadcasts,
+        told,
+        settings,
+        u,
+        clock,
     );
-    answered(x, w, v, d, b)
+    answered(s, x)
 }
 
 // Lends the unexpired queued send of highest priority, and of these the oldest, to the radio; `transmitted` must report on it.
-pub fn dequeue(s: Sends, told: &mut [u64; 560], clock: u64) -> Answered
+pub fn dequeue(mut s: Sends, told: &mut [u64; 560], clock: u64) -> Answered
     requires { Sound s }
     ensures value { result ≡ answered_of (dequeue_of (model_of s) clock) }
     ensures leaving { Leaving (dequeue_of (model_of s) clock) told.old told.new result }
 {
-    let c = s.counts;
-    let mut w = s.unicasts;
-    let mut v = s.unrouted;
-    let mut d = s.held;
-    let mut b = s.broadcasts;
-    let x = lending::radio::dequeue(c, &mut w, &mut v, &mut d, &mut b, told, clock);
-    answered(x, w, v, d, b)
+    let x = radio::dequeue(
+        s.counts,
+        &mut s.unicasts,
+        &mut s.unrouted,
+        &mut s.held,
+        &mut s.broadcasts,
+        told,
+        clock,
+    );
+    answered(s, x)
 }
 
 // The radio's report on a lent send: refused with 1, 5, 7 or 8. `from` names the table that lent it; `delay` is how long a failed
 // unicast waits for its next attempt, and a passive-ack broadcast for its next copy.
 pub fn transmitted(
-    s: Sends,
+    mut s: Sends,
     told: &mut [u64; 560],
     from: Lender,
     id: u32,
@@ -158,20 +172,26 @@ pub fn transmitted(
     ensures value { result ≡ answered_of (transmitted_of (model_of s) from id frame x clock delay) }
     ensures leaving { Leaving (transmitted_of (model_of s) from id frame x clock delay) told.old told.new result }
 {
-    let c = s.counts;
-    let mut w = s.unicasts;
-    let mut v = s.unrouted;
-    let mut d = s.held;
-    let mut b = s.broadcasts;
-    let x = lending::radio::transmitted(
-        c, &mut w, &mut v, &mut d, &mut b, told, from, id, frame, x, clock, delay,
+    let x = radio::transmitted(
+        s.counts,
+        &mut s.unicasts,
+        &mut s.unrouted,
+        &mut s.held,
+        &mut s.broadcasts,
+        told,
+        from,
+        id,
+        frame,
+        x,
+        clock,
+        delay,
     );
-    answered(x, w, v, d, b)
+    answered(s, x)
 }
 
 // A device polls, under either address: its oldest frame is queued ahead of everything else. Answers whether there was one.
 pub fn poll(
-    s: Sends,
+    mut s: Sends,
     told: &mut [u64; 560],
     eui: Option<u64>,
     nwk: Option<u16>,
@@ -181,71 +201,77 @@ pub fn poll(
     ensures value { result ≡ answered_of (poll_of (model_of s) eui nwk clock) }
     ensures leaving { Leaving (poll_of (model_of s) eui nwk clock) told.old told.new result }
 {
-    let c = s.counts;
-    let mut w = s.unicasts;
-    let mut v = s.unrouted;
-    let mut d = s.held;
-    let mut b = s.broadcasts;
-    let x = lent::devices::poll(c, &mut w, &mut v, &mut d, &mut b, told, eui, nwk, clock);
-    answered(x, w, v, d, b)
+    let x = devices::poll(
+        s.counts,
+        &mut s.unicasts,
+        &mut s.unrouted,
+        &mut s.held,
+        &mut s.broadcasts,
+        told,
+        eui,
+        nwk,
+        clock,
+    );
+    answered(s, x)
 }
 
 // An end-to-end ack came: it goes to the oldest unicast with that key.
-pub fn aps_ack_received(s: Sends, told: &mut [u64; 560], key: AckKey) -> Answered
+pub fn aps_ack_received(mut s: Sends, told: &mut [u64; 560], key: AckKey) -> Answered
     requires { Sound s }
     ensures value { result ≡ answered_of (ack_of (model_of s) key) }
     ensures leaving { Leaving (ack_of (model_of s) key) told.old told.new result }
 {
-    let c = s.counts;
-    let mut w = s.unicasts;
-    let mut v = s.unrouted;
-    let mut d = s.held;
-    let mut b = s.broadcasts;
-    let x = lent::devices::aps_ack_received(c, &mut w, &mut v, &mut d, &mut b, told, key);
-    answered(x, w, v, d, b)
+    let x = devices::aps_ack_received(
+        s.counts,
+        &mut s.unicasts,
+        &mut s.unrouted,
+        &mut s.held,
+        &mut s.broadcasts,
+        told,
+        key,
+    );
+    answered(s, x)
 }
 
 // A destination's discovery lapsed: answers whether the caller is to start it again. Refused with 9 where it is not held.
-pub fn retry_discovery(s: Sends, told: &mut [u64; 560], destination: u16) -> Answered
+pub fn retry_discovery(mut s: Sends, told: &mut [u64; 560], destination: u16) -> Answered
     requires { Sound s }
     ensures value { result ≡ answered_of (retry_of (model_of s) destination) }
     ensures leaving { Leaving (retry_of (model_of s) destination) told.old told.new result }
 {
-    let c = s.counts;
-    let mut w = s.unicasts;
-    let mut v = s.unrouted;
-    let mut d = s.held;
-    let mut b = s.broadcasts;
-    let x = admitting::routes::retry_discovery(
-        c,
-        &mut w,
-        &mut v,
-        &mut d,
-        &mut b,
+    let x = routes::retry_discovery(
+        s.counts,
+        &mut s.unicasts,
+        &mut s.unrouted,
+        &mut s.held,
+        &mut s.broadcasts,
         told,
         destination,
     );
-    answered(x, w, v, d, b)
+    answered(s, x)
 }
 
 // A destination's discovery ended without a route: its sends fail.
-pub fn fail_unrouted(s: Sends, told: &mut [u64; 560], destination: u16) -> Answered
+pub fn fail_unrouted(mut s: Sends, told: &mut [u64; 560], destination: u16) -> Answered
     requires { Sound s }
     ensures value { result ≡ answered_of (fail_of (model_of s) destination) }
     ensures leaving { Leaving (fail_of (model_of s) destination) told.old told.new result }
 {
-    let c = s.counts;
-    let mut w = s.unicasts;
-    let mut v = s.unrouted;
-    let mut d = s.held;
-    let mut b = s.broadcasts;
-    let x = admitting::routes::fail_unrouted(c, &mut w, &mut v, &mut d, &mut b, told, destination);
-    answered(x, w, v, d, b)
+    let x = routes::fail_unrouted(
+        s.counts,
+        &mut s.unicasts,
+        &mut s.unrouted,
+        &mut s.held,
+        &mut s.broadcasts,
+        told,
+        destination,
+    );
+    answered(s, x)
 }
 
 // A route to a destination is known: its sends, in id order, have the first n results. Refused with 1, 10 or 4.
 pub fn route_unicasts(
-    s: Sends,
+    mut s: Sends,
     told: &mut [u64; 560],
     settings: Settings,
     destination: u16,
@@ -257,17 +283,12 @@ pub fn route_unicasts(
     ensures value { result ≡ answered_of (route_of (model_of s) settings destination clock n results) }
     ensures leaving { Leaving (route_of (model_of s) settings destination clock n results) told.old told.new result }
 {
-    let c = s.counts;
-    let mut w = s.unicasts;
-    let mut v = s.unrouted;
-    let mut d = s.held;
-    let mut b = s.broadcasts;
-    let x = admitting::routes::route_unicasts(
-        c,
-        &mut w,
-        &mut v,
-        &mut d,
-        &mut b,
+    let x = routes::route_unicasts(
+        s.counts,
+        &mut s.unicasts,
+        &mut s.unrouted,
+        &mut s.held,
+        &mut s.broadcasts,
         told,
         settings,
         destination,
@@ -275,27 +296,30 @@ pub fn route_unicasts(
         results,
         n,
     );
-    answered(x, w, v, d, b)
+    answered(s, x)
 }
 
 // The quorum for a broadcast was heard: it goes to the oldest with that key.
-pub fn broadcast_delivered(s: Sends, told: &mut [u64; 560], key: QuorumKey) -> Answered
+pub fn broadcast_delivered(mut s: Sends, told: &mut [u64; 560], key: QuorumKey) -> Answered
     requires { Sound s }
     ensures value { result ≡ answered_of (delivered_of (model_of s) key) }
     ensures leaving { Leaving (delivered_of (model_of s) key) told.old told.new result }
 {
-    let c = s.counts;
-    let mut w = s.unicasts;
-    let mut v = s.unrouted;
-    let mut d = s.held;
-    let mut b = s.broadcasts;
-    let x = lent::devices::broadcast_delivered(c, &mut w, &mut v, &mut d, &mut b, told, key);
-    answered(x, w, v, d, b)
+    let x = devices::broadcast_delivered(
+        s.counts,
+        &mut s.unicasts,
+        &mut s.unrouted,
+        &mut s.held,
+        &mut s.broadcasts,
+        told,
+        key,
+    );
+    answered(s, x)
 }
 
 // A device is no child any more: what awaits its poll fails.
 pub fn drop_indirect_unicasts(
-    s: Sends,
+    mut s: Sends,
     told: &mut [u64; 560],
     eui: Option<u64>,
     nwk: u16,
@@ -304,44 +328,52 @@ pub fn drop_indirect_unicasts(
     ensures value { result ≡ answered_of (drop_of (model_of s) eui nwk) }
     ensures leaving { Leaving (drop_of (model_of s) eui nwk) told.old told.new result }
 {
-    let c = s.counts;
-    let mut w = s.unicasts;
-    let mut v = s.unrouted;
-    let mut d = s.held;
-    let mut b = s.broadcasts;
-    let x = lent::devices::drop_indirect_unicasts(
-        c, &mut w, &mut v, &mut d, &mut b, told, eui, nwk,
+    let x = devices::drop_indirect_unicasts(
+        s.counts,
+        &mut s.unicasts,
+        &mut s.unrouted,
+        &mut s.held,
+        &mut s.broadcasts,
+        told,
+        eui,
+        nwk,
     );
-    answered(x, w, v, d, b)
+    answered(s, x)
 }
 
 // A send is cancelled, a broadcast with its copies: refused with 5 where no table has it, with 6 where it or a copy is in the
 // radio.
-pub fn cancel(s: Sends, told: &mut [u64; 560], id: u32) -> Answered
+pub fn cancel(mut s: Sends, told: &mut [u64; 560], id: u32) -> Answered
     requires { Sound s }
     ensures value { result ≡ answered_of (cancel_of (model_of s) id) }
     ensures leaving { Leaving (cancel_of (model_of s) id) told.old told.new result }
 {
-    let c = s.counts;
-    let mut w = s.unicasts;
-    let mut v = s.unrouted;
-    let mut d = s.held;
-    let mut b = s.broadcasts;
-    let x = lent::ends::cancel(c, &mut w, &mut v, &mut d, &mut b, told, id);
-    answered(x, w, v, d, b)
+    let x = ends::cancel(
+        s.counts,
+        &mut s.unicasts,
+        &mut s.unrouted,
+        &mut s.held,
+        &mut s.broadcasts,
+        told,
+        id,
+    );
+    answered(s, x)
 }
 
 // The timer pass: what is due is queued again, and what is past its deadline fails.
-pub fn tick(s: Sends, told: &mut [u64; 560], clock: u64) -> Answered
+pub fn tick(mut s: Sends, told: &mut [u64; 560], clock: u64) -> Answered
     requires { Sound s }
     ensures value { result ≡ answered_of (tick_of (model_of s) clock) }
     ensures leaving { Leaving (tick_of (model_of s) clock) told.old told.new result }
 {
-    let c = s.counts;
-    let mut w = s.unicasts;
-    let mut v = s.unrouted;
-    let mut d = s.held;
-    let mut b = s.broadcasts;
-    let x = lent::ends::tick(c, &mut w, &mut v, &mut d, &mut b, told, clock);
-    answered(x, w, v, d, b)
+    let x = ends::tick(
+        s.counts,
+        &mut s.unicasts,
+        &mut s.unrouted,
+        &mut s.held,
+        &mut s.broadcasts,
+        told,
+        clock,
+    );
+    answered(s, x)
 }

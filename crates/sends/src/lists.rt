@@ -9,29 +9,28 @@ ghost use Rattle.lent.specs.Fills.{Filled, Matching};
 ghost use Rattle.sends.specs.Lists.{emptied_of, Left};
 
 use lent::lists::Matched;
+use lent::{ends, lists};
 use model::{Emptied, Sends};
 use sending::Book;
 
 // Every table is emptied, and each live send is listed: its id, then its waiter, from the list's start on. The next id stays.
-pub fn abandon(s: Sends, list: &mut [u64; 128]) -> Emptied
+pub fn abandon(mut s: Sends, list: &mut [u64; 128]) -> Emptied
     requires { Sound s }
     ensures value { result ≡ emptied_of (model_of s) }
     ensures left { Left (model_of s) list.old list.new result }
 {
-    let c = s.counts;
-    let mut w = s.unicasts;
-    let mut v = s.unrouted;
-    let mut d = s.held;
-    let mut b = s.broadcasts;
-    let x = lent::ends::abandon(c, &mut w, &mut v, &mut d, &mut b, list);
-    let n = x.counts;
+    let x = ends::abandon(
+        s.counts,
+        &mut s.unicasts,
+        &mut s.unrouted,
+        &mut s.held,
+        &mut s.broadcasts,
+        list,
+    );
     Emptied {
         sends: Sends {
-            counts: n,
-            unicasts: w,
-            unrouted: v,
-            held: d,
-            broadcasts: b,
+            counts: x.counts,
+            ..s
         },
         listed: x.listed,
     }
@@ -42,9 +41,7 @@ pub fn unrouted_destinations(s: Sends, out: &mut [u16; 16]) -> usize
     requires { Sound s }
     ensures { Filled 0 (destinations_of (model_of s)) out.old out.new result }
 {
-    let c = s.counts;
-    let d = s.held;
-    lent::lists::destinations(&d, c.held, out)
+    lists::destinations(&s.held, s.counts.held, out)
 }
 
 // The keys whose quorum is awaited, by the broadcast's id, each as one word: source + 65536 * sequence.
@@ -52,9 +49,7 @@ pub fn broadcasts_awaiting_quorum(s: Sends, out: &mut [u64; 16]) -> usize
     requires { Sound s }
     ensures { Filled 0 (map quorum_word (awaited_of (model_of s).broadcasts)) out.old out.new result }
 {
-    let c = s.counts;
-    let b = s.broadcasts;
-    lent::lists::awaiting_quorum(&b, c.broadcasts, out)
+    lists::awaiting_quorum(&s.broadcasts, s.counts.broadcasts, out)
 }
 
 // The short or the extended addresses that the radio answers a poll from with frame pending, rising, each once; refused with
@@ -69,7 +64,5 @@ pub fn poll_addresses(
     requires { Sound s }
     ensures { Matching book eui.now nwk.now (model_of s).unicasts out.old out.new result }
 {
-    let c = s.counts;
-    let w = s.unicasts;
-    lent::lists::poll_addresses(&w, c.unicasts, book, eui, nwk, out)
+    lists::poll_addresses(&s.unicasts, s.counts.unicasts, book, eui, nwk, out)
 }

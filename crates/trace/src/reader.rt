@@ -4,7 +4,7 @@ ghost use Rattle.std.specs.Prelude.{◌≡◌, ◌-◌, ◌≤◌, length, take,
 ghost use Rattle.framing.specs.Reader.{stands_at};
 ghost use Rattle.trace.specs.Reading.{records_in};
 
-use framing::Standing;
+use framing::{Standing, reader};
 
 #[derive(Clone, Copy)]
 pub struct Reader<'a> {
@@ -23,7 +23,7 @@ pub fn opened<'a>(trace: &'a [u8]) -> Reader<'a>
 pub fn stands<'a>(r: Reader<'a>) -> Standing
     ensures { result ≡ stands_at r.entry.trace.now r.entry.at }
 {
-    framing::reader::stands_at(r.trace, r.at)
+    reader::stands_at(r.trace, r.at)
 }
 
 // A record's body: that very stretch of the trace, which outlives the reader.
@@ -31,17 +31,14 @@ pub fn body<'a>(r: Reader<'a>, start: usize, next: usize) -> &'a [u8]
     requires { (start ≤ next) × (next ≤ length r.trace.now) }
     ensures { result.now ≡ take (next - start) (drop start r.entry.trace.now) }
 {
-    framing::reader::record_at(r.trace, start, next)
+    reader::record_at(r.trace, start, next)
 }
 
 // The same trace, read from another place on.
 pub fn moved<'a>(r: Reader<'a>, next: usize) -> Reader<'a>
     ensures { (result.trace ≡ r.entry.trace) × (result.at ≡ next) }
 {
-    Reader {
-        trace: r.trace,
-        at: next,
-    }
+    Reader { at: next, ..r }
 }
 
 // ---- with plain parameters
@@ -63,19 +60,11 @@ pub fn body_at(trace: &[u8], start: usize, next: usize) -> &[u8]
 pub fn count_records(trace: &[u8]) -> usize
     ensures { result ≡ records_in trace.now }
 {
-    let mut at: usize = 0;
-    let mut n: usize = 0;
-    loop {
-        match standing_at(trace, at) {
-            Standing::Record {
-                kind: _,
-                start: _,
-                next,
-            } => {
-                at = next;
-                n = n + 1;
-            }
-            _ => return n,
-        }
+    let mut at = 0;
+    let mut n = 0;
+    while let Standing::Record { next, .. } = standing_at(trace, at) {
+        at = next;
+        n += 1;
     }
+    n
 }

@@ -7,7 +7,7 @@ ghost use Rattle.answers.specs.Bytes.{Written};
 ghost use Rattle.answers.specs.Items.{end_bytes};
 ghost use Rattle.runs.specs.Run.{Ran};
 
-use framing::Standing;
+use framing::{Standing, reader};
 use model::Counts;
 use records::{Broadcast, Destination, Unicast, Unrouted};
 
@@ -44,40 +44,32 @@ pub fn walk(trace: &[u8], out: &mut [u8]) -> usize
     let mut v = tables::fresh::<Unrouted, 112>();
     let mut d = tables::fresh::<Destination, 32>();
     let mut b = tables::fresh::<Broadcast, 112>();
-    let mut told: [u64; 560] = [0; 560];
-    let mut eui: [u64; 32] = [0; 32];
-    let mut nwk: [u16; 32] = [0; 32];
+    let mut told = [0; 560];
+    let mut eui = [0; 32];
+    let mut nwk = [0; 32];
     let mut c = no_sends();
     let mut s = records::numbers::default_settings();
-    let mut pairs: usize = 0;
-    let mut at: usize = 0;
-    let mut o: usize = 0;
+    let mut pairs = 0;
+    let mut at = 0;
+    let mut o = 0;
     loop {
-        match framing::reader::stands_at(trace, at) {
+        match reader::stands_at(trace, at) {
             Standing::End => return end(out, o, 0, at),
             Standing::Unknown => return end(out, o, 12, at),
             Standing::Cut => return end(out, o, 13, at),
             Standing::Record { kind, start, next } => {
-                let body = framing::reader::record_at(trace, start, next);
-                if exchange::is_own(kind) {
-                    let t = exchange::serve(
+                let body = reader::record_at(trace, start, next);
+                let t = if exchange::is_own(kind) {
+                    exchange::serve(
                         c, &mut w, &mut v, &mut d, &mut b, &mut told, s, &mut eui, &mut nwk, pairs,
                         out, o, kind, body,
-                    );
-                    if t.wrote == 0 {
-                        return end(out, o, 15, at);
-                    }
-                    c = t.counts;
-                    s = t.settings;
-                    pairs = t.pairs;
-                    o = t.wrote;
-                    at = next;
-                    continue;
-                }
-                let t = exchange::call(
-                    c, &mut w, &mut v, &mut d, &mut b, &mut told, s, &mut eui, &mut nwk, pairs,
-                    out, o, kind, body,
-                );
+                    )
+                } else {
+                    exchange::call(
+                        c, &mut w, &mut v, &mut d, &mut b, &mut told, s, &mut eui, &mut nwk, pairs,
+                        out, o, kind, body,
+                    )
+                };
                 if t.wrote == 0 {
                     return end(out, o, 15, at);
                 }

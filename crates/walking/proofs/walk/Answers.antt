@@ -1,10 +1,14 @@
+use Prim.Native.Nat.{ℕ}
 use mathlib.Core.Path.{refl, sym, ap, ◌∙◌}
+use mathlib.Core.List.{List}
 use Rattle.events.specs.Events.{event_of}
 use Rattle.exchange.specs.World.{World, world_of}
+use Rattle.exchange.specs.Turns.{Turned}
 use Rattle.exchange.proofs.Somes.{items-some}
 use Rattle.runs.specs.Run.{step_by}
 use Rattle.runs.proofs.Running.{at-end, at-unknown, at_cut}
 use Rattle.walking.proofs.Walking.{begins, walk-full, walk-on}
+use Rattle.walking.proofs.walk.Goals.{then-is_own, else-is_own}
 use Rattle.walking.proofs.walk.Goals as goal
 
 pub loop-out-init : goal.loop-out-init
@@ -19,31 +23,33 @@ returns-in-Unknown c = at-unknown c.loop-out.invariant.running (sym c.stands_at.
 pub returns-in-Cut : goal.returns-in-Cut
 returns-in-Cut c = at_cut c.loop-out.invariant.running (sym c.stands_at.ensures ∙ c.in-Cut.is) c.end-in-Cut.ensures
 
--- Below, `e` says that the step is the one that the trace's record asks for.
+-- Either function makes the turn that the record asks for: `e` says that it is this record, and `turned` what the turn made.
 pub returns-then-t-eq0 : goal.returns-then-t-eq0
 returns-then-t-eq0 c =
     let at = c.loop-out in
-    let w : World = world_of at.c at.w at.v at.d at.b at.s at.eui at.nwk at.pairs in
-    let e = ap (step_by w c.in-Record.kind) c.record_at-body.ensures in
-    walk-full at.invariant (sym c.in-Record.ensures) e c.serve-t.ensures (items-some w _ (event_of c.in-Record.kind c.record_at-body.result.now)) c.if-t-eq0.true c.end-then-t-eq0.ensures
-
-pub loop-out-preserved-then-is_own : goal.loop-out-preserved-then-is_own
-loop-out-preserved-then-is_own c =
-    let at = c.loop-out in
-    let w : World = world_of at.c at.w at.v at.d at.b at.s at.eui at.nwk at.pairs in
-    let e = ap (step_by w c.in-Record.kind) c.record_at-body.ensures in
-    walk-on at.invariant (sym c.in-Record.ensures) e c.serve-t.ensures c.if-t-eq0.false
-
-pub returns-then-t-eq0-2 : goal.returns-then-t-eq0-2
-returns-then-t-eq0-2 c =
-    let at = c.loop-out in
-    let w : World = world_of at.c at.w at.v at.d at.b at.s at.eui at.nwk at.pairs in
-    let e = ap (step_by w c.in-Record.kind) c.record_at-body.ensures in
-    walk-full at.invariant (sym c.in-Record.ensures) e c.call-t.ensures (items-some w _ (event_of c.in-Record.kind c.record_at-body.result.now)) c.if-t-eq0-2.true c.end-then-t-eq0-2.ensures
+    let j = c.if-is_own in
+    let kind : ℕ = c.in-Record.kind in
+    let bytes : List ℕ = c.record_at-body.result.now in
+    let here : World = world_of at.c at.w at.v at.d at.b at.s at.eui at.nwk at.pairs in
+    let e = ap (step_by here kind) c.record_at-body.ensures in
+    let turned : Turned (step_by here kind bytes) at.o at.out j.w j.v j.d j.b j.eui j.nwk j.told j.out j.t =
+    elim c.if-is_own.branch [
+      | then-is_own w ↦ rw (w.out-is, w.w-is, w.v-is, w.d-is, w.b-is, w.told-is, w.eui-is, w.nwk-is, w.t-is) w.serve-t.ensures
+      | else-is_own w ↦ rw (w.out-is, w.w-is, w.v-is, w.d-is, w.b-is, w.told-is, w.eui-is, w.nwk-is, w.t-is) w.call-t.ensures
+    ] in
+    walk-full at.invariant (sym c.in-Record.ensures) e turned (items-some here _ (event_of kind bytes)) c.if-t-eq0.true c.end-then-t-eq0.ensures
 
 pub loop-out-preserved : goal.loop-out-preserved
 loop-out-preserved c =
     let at = c.loop-out in
-    let w : World = world_of at.c at.w at.v at.d at.b at.s at.eui at.nwk at.pairs in
-    let e = ap (step_by w c.in-Record.kind) c.record_at-body.ensures in
-    walk-on at.invariant (sym c.in-Record.ensures) e c.call-t.ensures c.if-t-eq0-2.false
+    let j = c.if-is_own in
+    let kind : ℕ = c.in-Record.kind in
+    let bytes : List ℕ = c.record_at-body.result.now in
+    let here : World = world_of at.c at.w at.v at.d at.b at.s at.eui at.nwk at.pairs in
+    let e = ap (step_by here kind) c.record_at-body.ensures in
+    let turned : Turned (step_by here kind bytes) at.o at.out j.w j.v j.d j.b j.eui j.nwk j.told j.out j.t =
+    elim c.if-is_own.branch [
+      | then-is_own w ↦ rw (w.out-is, w.w-is, w.v-is, w.d-is, w.b-is, w.told-is, w.eui-is, w.nwk-is, w.t-is) w.serve-t.ensures
+      | else-is_own w ↦ rw (w.out-is, w.w-is, w.v-is, w.d-is, w.b-is, w.told-is, w.eui-is, w.nwk-is, w.t-is) w.call-t.ensures
+    ] in
+    walk-on at.invariant (sym c.in-Record.ensures) e turned c.if-t-eq0.false

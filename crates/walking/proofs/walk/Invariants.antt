@@ -1,4 +1,4 @@
--- The records in turn: three ways to an end, the fourth where answers do not fit, and on; the last two for either sort of kind.
+-- The records in turn: three ways to an end, the fourth where answers do not fit, and on.
 use Prim.Native.Nat.{◌-◌}
 use lib.ListN.{length}
 use Rattle.walking.proofs.Walking.{Walking}

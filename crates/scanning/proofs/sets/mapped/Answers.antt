@@ -1,9 +1,15 @@
-use Rattle.sending.proofs.Members.{map-out, map_on}
-use native.Mathlib.Omega.{arith}
+use Rattle.std.specs.Prelude.{Some}
+use Rattle.std.proofs.Common.{rules}
+use Rattle.std.specs.Slice.Iter.{iter_rest}
+use mathlib.Core.Path.{ap, ◌∙◌}
+use Rattle.scanning.proofs.Maps.{mapped-is}
 use Rattle.scanning.proofs.sets.mapped.Goals as goal
 
-pub returns-then-l-i : goal.returns-then-l-i
-returns-then-l-i c = map-out c.args.x c.args.eui.now c.args.nwk.now c.loop-i.i c.loop-i.invariant.1 (omega arith) c.if-l-i.true
+pub returns-in-Some : goal.returns-in-Some
+returns-in-Some c =
+    ap Some c.from.ensures
+    ∙ mapped-is c.find.new.self c.args.x c.args.eui.now c.args.nwk.now (ap iter_rest c.zip.ensures.first ∙ c.iter.ensures.rest) c.zip.ensures.second.0 c.find.ensures.ran (λ y b k e. search rules) c.in-Some.is
 
-pub loop-i-preserved : goal.loop-i-preserved
-loop-i-preserved c = (omega arith, map_on c.args.x c.args.eui.now c.args.nwk.now c.loop-i.i c.loop-i.invariant.1 (omega arith) (omega arith) c.if-eui-i.false)
+pub returns-in-None : goal.returns-in-None
+returns-in-None c =
+    mapped-is c.find.new.self c.args.x c.args.eui.now c.args.nwk.now (ap iter_rest c.zip.ensures.first ∙ c.iter.ensures.rest) c.zip.ensures.second.0 c.find.ensures.ran (λ y b k e. search rules) c.in-None.is

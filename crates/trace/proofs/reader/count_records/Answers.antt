@@ -17,5 +17,5 @@ loop-next-smaller c =
 pub loop-next-preserved : goal.loop-next-preserved
 loop-next-preserved c = go_on c.args.trace.now _ _ _ _ _ (sym c.in-Record.ensures) c.loop-next.invariant
 
-pub returns-in_default : goal.returns-in_default
-returns-in_default c = stop _ _ _ c.standing_at.result c.in_default.not-Record c.standing_at.ensures c.loop-next.invariant
+pub returns : goal.returns
+returns c = stop _ _ _ c.standing_at.result c.in_default.not-Record c.standing_at.ensures c.loop-next.invariant
