@@ -4,7 +4,7 @@ ghost use Rattle.records.specs.declared.SendFailure.TheVariants.{ApsAckTimeout};
 ghost use Rattle.sending.specs.declared.Due.TheVariants.{Leave};
 ghost use Rattle.sending.specs.Rules.{unsent, under, copies_by, pending_head, pends_head, beside_head, sent_copy_head, sought_head, lapse_due, retry_due, tick_due, drop_due, copy_due, due_head, better_of, wake_head};
 
-use records::{Address, SendFailure, Stage, compare, priorities, times};
+use records::{Address, Priority, SendFailure, Stage, compare, priorities, times};
 use sending::{Due, Sought, Which};
 use tables::unicast_rows::UnicastHead;
 

@@ -1,5 +1,5 @@
 -- A call on the broadcast with an id, once that was found or not. Assumes nothing.
-use Rattle.std.specs.Prelude.{Option, None, Some}
+use Rattle.std.specs.Prelude.{Option, None, Some, Ok, Err}
 use Prim.Native.Nat.{ℕ, ◌<◌}
 use mathlib.Core.Path.{◌≡◌, refl, sym, ap, ◌∙◌}
 use mathlib.Core.Bool.{true, false}
@@ -17,8 +17,7 @@ use Rattle.actions.specs.Calls.{Played}
 use Rattle.actions.proofs.Sweeps.{turn-found, turn-missed}
 use Rattle.actions.proofs.Lines.{told_none}
 use Rattle.casting.specs.Types.{Broadcast, Refusal, NoSuchSend, InTheRadio, NotInTheRadio, OtherFrame}
-use Rattle.casting.specs.declared.Counts.{Counts}
-use Rattle.casting.specs.declared.Outcome.TheVariants.{Refused, Done}
+use Rattle.tables.specs.declared.Counts.{Counts}
 use Rattle.broadcasts.specs.Calls.{Answered, Dequeued}
 use Rattle.casting.specs.Rules.{in_radio, report_bar, cancel_bar, lent, lent_of, dequeue_turn}
 use Rattle.broadcasts.proofs.Plays.{as-played}
@@ -53,7 +52,7 @@ module _ {ws : List ℕ} {n : ℕ} (h : Held broadcast_table ws n) (id : ℕ) wh
     missed_first = sym (find_first broadcast_id id (live broadcast_table ws n)) ∙ sym e
 
     pub missed-answer : {bar : Option Broadcast → Option Refusal} {f : Broadcast → Turn Broadcast} {buf : List ℕ} {m : ℕ} → bar None ≡ Some NoSuchSend
-        → Answered id bar f ws n buf m ws buf (Refused NoSuchSend)
+        → Answered id bar f ws n buf m ws buf (Err NoSuchSend)
     missed-answer {bar} b = record { answer = sym (ap bar missed-is ∙ b); table = (refl, refl) }
 
     pub missed-lent : Dequeued id ws n ws None
@@ -73,11 +72,11 @@ module _ {ws : List ℕ} {n : ℕ} (h : Held broadcast_table ws n) (id : ℕ) wh
       found-is = hit-lookup h id i (sym e) ∙ ap Some (sym l)
 
       pub barred : {bar : Option Broadcast → Option Refusal} {f : Broadcast → Turn Broadcast} {buf : List ℕ} {m : ℕ} {x : Refusal} → bar (Some u) ≡ Some x
-          → Answered id bar f ws n buf m ws buf (Refused x)
+          → Answered id bar f ws n buf m ws buf (Err x)
       barred {bar} b = record { answer = sym (ap bar found-is ∙ b); table = (refl, refl) }
 
       pub done : {bar : Option Broadcast → Option Refusal} (f : Broadcast → Turn Broadcast) {x : Turn Broadcast} {buf ws' buf' : List ℕ} {m : ℕ} {c : Counts} → bar (Some u) ≡ None → x ≡ f u
-          → Played broadcast_table broadcast_entry x i u ws n buf m ws' c.sends buf' c.told → Answered id bar f ws n buf m ws' buf' (Done c)
+          → Played broadcast_table broadcast_entry x i u ws n buf m ws' c.sends buf' c.told → Answered id bar f ws n buf m ws' buf' (Ok c)
       done {bar} f b t p = record { answer = sym (ap bar found-is ∙ b); table = turn-found h (has_id broadcast_entry id) f i found_first (as-played f l t p) }
 
       pub found-lent : {r : Broadcast} {ws' : List ℕ} → r ≡ lent u → Holds broadcast_table ws' n (set (live broadcast_table ws n) i r) → Dequeued id ws n ws' (Some u.frame)

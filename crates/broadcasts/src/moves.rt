@@ -10,11 +10,11 @@ ghost use Rattle.casting.specs.Rules.{turn_b, admitted_of, keyed, report_turn, r
 ghost use Rattle.broadcasts.specs.Calls.{Plays, Answered, Dequeued};
 
 use crate::asks;
-use casting::{Counts, Outcome, TurnB, heads};
+use casting::{TurnB, heads};
 use records::blanks::broadcast_entry;
 use records::{Broadcast, Priority, QuorumKey, Refusal, Schedule, TxResult};
 use repeating::turns;
-use tables::broadcast_rows;
+use tables::{Counts, broadcast_rows};
 
 // The broadcast at place i, which is u, has this turn.
 fn play(
@@ -101,43 +101,49 @@ pub fn report(
     x: TxResult,
     clock: u64,
     delay: u32,
-) -> Outcome
+) -> Result<Counts, Refusal>
     requires held { Held broadcast_table w.old n }
     requires m_bound { m + 2 ≤ 112 }
     requires clock_le_last_time { clock ≤ last_time }
     ensures { Answered id (report_bar frame) (report_turn x clock delay) w.old n told.old m w.new told.new result }
 {
     match tables::find::<Broadcast>(w, n, id) {
-        None => Outcome::Refused(Refusal::NoSuchSend),
+        None => Err(Refusal::NoSuchSend),
         Some(i) => {
             let u = tables::load::<Broadcast>(w, i);
             if !turns::in_radio(u.copy) {
-                return Outcome::Refused(Refusal::NotInTheRadio);
+                return Err(Refusal::NotInTheRadio);
             }
             if u.frame != frame {
-                return Outcome::Refused(Refusal::OtherFrame);
+                return Err(Refusal::OtherFrame);
             }
             let t = turns::report(u, x, clock, delay);
-            Outcome::Done(play(w, n, told, m, i, u, t))
+            Ok(play(w, n, told, m, i, u, t))
         }
     }
 }
 
 // The broadcast with that id is settled as cancelled.
-pub fn cancel(w: &mut [u64; 112], n: usize, told: &mut [u64; 560], m: usize, id: u32) -> Outcome
+pub fn cancel(
+    w: &mut [u64; 112],
+    n: usize,
+    told: &mut [u64; 560],
+    m: usize,
+    id: u32,
+) -> Result<Counts, Refusal>
     requires held { Held broadcast_table w.old n }
     requires m_bound { m + 2 ≤ 112 }
     ensures { Answered id cancel_bar cancel_turn w.old n told.old m w.new told.new result }
 {
     match tables::find::<Broadcast>(w, n, id) {
-        None => Outcome::Refused(Refusal::NoSuchSend),
+        None => Err(Refusal::NoSuchSend),
         Some(i) => {
             let u = tables::load::<Broadcast>(w, i);
             if turns::in_radio(u.copy) {
-                return Outcome::Refused(Refusal::InTheRadio);
+                return Err(Refusal::InTheRadio);
             }
             let t = turns::cancel(u);
-            Outcome::Done(play(w, n, told, m, i, u, t))
+            Ok(play(w, n, told, m, i, u, t))
         }
     }
 }

@@ -1,5 +1,6 @@
 -- 01's rules of broadcasts, on one broadcast and on the list of them.
-use Rattle.std.specs.Prelude.{ℕ, ◌+◌, ◌-◌, Bool, true, false, not, ◌&&◌, ◌||◌, List, [], ◌∷◌, ltb, leb, eqb, Option, None, Some, Ok, Err}
+use Rattle.tables.specs.declared.Counts.{Counts}
+use Rattle.std.specs.Prelude.{ℕ, ◌+◌, ◌-◌, Bool, true, false, not, ◌&&◌, ◌||◌, List, [], ◌∷◌, ltb, leb, eqb, Option, None, Some, Ok, Err, Result}
 use Rattle.records.specs.Pick.{pick}
 use Rattle.records.specs.Priorities.{rank_of}
 use Rattle.records.specs.Records.{broadcast_id}
@@ -9,7 +10,7 @@ use Rattle.rows.specs.Lists.{fold, lookup}
 use Rattle.rows.specs.Moves.{Turn}
 use Rattle.rows.specs.Moves.Turn.{Keeps, HandsOff, Settles}
 use Rattle.tables.specs.Layouts.{broadcast_head}
-use Rattle.casting.specs.Types.{Priority, QuorumKey, Schedule, Once, PassiveAck, FixedInterval, CopyState, Idle, CopyQueued, CopyTransmitting, Broadcast, TxResult, HandoffTimeout, BroadcastQuorumNotReached, Cancelled, Verdict, Success, Failure, Code, Refusal, NoSuchSend, InTheRadio, NotInTheRadio, OtherFrame, BroadcastHead, TurnB, KeepsB, HandsOffB, SettlesB, Outcome, Refused, Done}
+use Rattle.casting.specs.Types.{Priority, QuorumKey, Schedule, Once, PassiveAck, FixedInterval, CopyState, Idle, CopyQueued, CopyTransmitting, Broadcast, TxResult, HandoffTimeout, BroadcastQuorumNotReached, Cancelled, Verdict, Success, Failure, Code, Refusal, NoSuchSend, InTheRadio, NotInTheRadio, OtherFrame, BroadcastHead, TurnB, KeepsB, HandsOffB, SettlesB}
 
 -- the turn that an answer says: a broadcast never has a failed hop
 abbrev pub turn_b : TurnB → Turn Broadcast
@@ -272,9 +273,9 @@ abbrev pub cancel_bar : Option Broadcast → Option Refusal
 cancel_bar None = Some NoSuchSend
 cancel_bar (Some b) = pick (in_radio b.copy) (Some InTheRadio) None
 
-abbrev pub refusal_of : Outcome → Option Refusal
-refusal_of (Refused x) = Some x
-refusal_of (Done c) = None
+abbrev pub refusal_of : Result Counts Refusal → Option Refusal
+refusal_of (Err x) = Some x
+refusal_of (Ok c) = None
 
 -- the frame that is lent to the radio
 abbrev pub lent_of : Option Broadcast → Option ℕ

@@ -15,6 +15,4 @@ pub use Rattle.records.specs.declared.Refusal.TheVariants.{NoSuchSend, InTheRadi
 pub use Rattle.tables.specs.declared.broadcast_rows.BroadcastHead.{BroadcastHead}
 pub use Rattle.casting.specs.declared.TurnB.{TurnB}
 pub use Rattle.casting.specs.declared.TurnB.TheVariants.{KeepsB, HandsOffB, SettlesB}
-pub use Rattle.casting.specs.declared.Counts.{Counts}
-pub use Rattle.casting.specs.declared.Outcome.{Outcome}
-pub use Rattle.casting.specs.declared.Outcome.TheVariants.{Refused, Done}
+pub use Rattle.tables.specs.declared.Counts.{Counts}

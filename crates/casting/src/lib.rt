@@ -1,7 +1,7 @@
 // The rules of broadcasts as definitions, what they answer with, and what a scan asks of one broadcast.
 #![tactic(auto)]
 
-use records::{Broadcast, QuorumKey, Refusal, Verdict};
+use records::{Broadcast, Verdict};
 
 pub mod heads;
 
@@ -12,18 +12,4 @@ pub enum TurnB {
     KeepsB(Broadcast),
     HandsOffB(Broadcast),
     SettlesB(bool, Verdict),
-}
-
-// How many broadcasts are left, and the next place in the buffer.
-#[derive(Clone, Copy)]
-pub struct Counts {
-    pub sends: usize,
-    pub told: usize,
-}
-
-// What a call on one broadcast answers.
-#[derive(Clone, Copy)]
-pub enum Outcome {
-    Refused(Refusal),
-    Done(Counts),
 }

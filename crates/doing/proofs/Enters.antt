@@ -1,5 +1,5 @@
 -- How an enqueue, whose send enters one table under a drawn id, and a call by id, which may be barred, become calls on all tables. Assumes nothing.
-use Rattle.std.specs.Prelude.{Option}
+use Rattle.std.specs.Prelude.{Option, Result, Ok}
 use Prim.Native.Nat.{ℕ, ◌≤◌}
 use mathlib.Core.Path.{◌≡◌, sym, ap, ◌∙◌}
 use mathlib.Core.Bool.{Bool, true, false}
@@ -13,12 +13,8 @@ use Rattle.rows.specs.Lists.{lookup}
 use Rattle.rows.specs.Tables.{Table, live, Held}
 use Rattle.rows.specs.Moves.{Turn, first_of, has_id}
 use Rattle.rows.proofs.Promises.{held-length}
-use Rattle.unicasts.specs.declared.Outcome as uni
-use Rattle.unicasts.specs.declared.Outcome.TheVariants as unicasts
 use Rattle.unicasts.specs.Calls.{Called}
-use Rattle.casting.specs.declared.Outcome as bro
-use Rattle.casting.specs.declared.Outcome.TheVariants as broadcasts
-use Rattle.casting.specs.declared.Counts as left
+use Rattle.tables.specs.declared.Counts as left
 use Rattle.broadcasts.specs.Calls.{Answered}
 use Rattle.model.specs.Model.{Model, Effect, lent_model, SoundTables, Does}
 use Rattle.model.specs.Calls.{late, unless, turn_unicast, turn_broadcast}
@@ -45,12 +41,12 @@ by_broadcast m bar f id = unless m (bar (lookup broadcast_id id m.broadcasts)) (
 module _ {c : Counts} {ws vs ds bs : List ℕ} (s : SoundTables c ws vs ds bs) where
   -- ---- a call on the unicast, or on the broadcast, with that id
 
-  module _ {bar : Option Unicast → Option Refusal} {f : Unicast → Turn Unicast} {id : ℕ} {buf ws' buf' : List ℕ} {o : uni.Outcome} (k : Called bar f id ws c.unicasts buf 0 ws' buf' o) where
-    pub turned-unicast : {n m : ℕ} {a : Counts} → o ≡ unicasts.Done n m → a ≡ with_unicast_count c n
-        → Does (by_unicast (lent_model c ws vs ds bs) bar f id) buf ws' vs ds bs buf' (record { counts = a; answer = Accepted; told = m })
+  module _ {bar : Option Unicast → Option Refusal} {f : Unicast → Turn Unicast} {id : ℕ} {buf ws' buf' : List ℕ} {o : Result left.Counts Refusal} (k : Called bar f id ws c.unicasts buf 0 ws' buf' o) where
+    pub turned-unicast : {l : left.Counts} {a : Counts} → o ≡ Ok l → a ≡ with_unicast_count c l.sends
+        → Does (by_unicast (lent_model c ws vs ds bs) bar f id) buf ws' vs ds bs buf' (record { counts = a; answer = Accepted; told = l.told })
     turned-unicast q e = let p = rw q at k in rw (← p.answer) (done-unicasts s e p.tables.table p.tables.tells)
 
-  module _ {bar : Option Broadcast → Option Refusal} {f : Broadcast → Turn Broadcast} {id : ℕ} {buf bs' buf' : List ℕ} {o : bro.Outcome} (k : Answered id bar f bs c.broadcasts buf 0 bs' buf' o) where
-    pub turned-broadcast : {l : left.Counts} {a : Counts} → o ≡ broadcasts.Done l → a ≡ with_broadcast_count c l.sends
+  module _ {bar : Option Broadcast → Option Refusal} {f : Broadcast → Turn Broadcast} {id : ℕ} {buf bs' buf' : List ℕ} {o : Result left.Counts Refusal} (k : Answered id bar f bs c.broadcasts buf 0 bs' buf' o) where
+    pub turned-broadcast : {l : left.Counts} {a : Counts} → o ≡ Ok l → a ≡ with_broadcast_count c l.sends
         → Does (by_broadcast (lent_model c ws vs ds bs) bar f id) buf ws vs ds bs' buf' (record { counts = a; answer = Accepted; told = l.told })
     turned-broadcast q e = let p = rw q at k in rw (← p.answer) (done-broadcasts s e p.table.table p.table.tells)

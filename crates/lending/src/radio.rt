@@ -9,7 +9,7 @@ ghost use Rattle.lending.specs.Choices.{chosen_of};
 use broadcasts::moves;
 use model::{Answer, Counts, Did, Lender, Transmit};
 use records::{Refusal, TxResult, priorities};
-use unicasts::{Outcome, calls};
+use unicasts::calls;
 
 // The send that goes to the radio, if one does.
 #[derive(Clone, Copy)]
@@ -142,11 +142,11 @@ fn report_unicast(
     ensures { Does (report_in (lent_model c w.old v.old d.old b.old) FromUnicasts id frame x clock delay) told.old w.new v.new d.new b.new told.new result }
 {
     match calls::report(w, c.unicasts, told, 0, id, frame, x, clock, delay) {
-        Outcome::Refused(e) => doing::denied(c, e),
-        Outcome::Done(n, m) => Did {
-            counts: doing::with_unicasts(c, n),
+        Err(e) => doing::denied(c, e),
+        Ok(left) => Did {
+            counts: doing::with_unicasts(c, left.sends),
             answer: Answer::Accepted,
-            told: m,
+            told: left.told,
         },
     }
 }
@@ -170,11 +170,11 @@ fn report_broadcast(
     ensures { Does (report_in (lent_model c w.old v.old d.old b.old) FromBroadcasts id frame x clock delay) told.old w.new v.new d.new b.new told.new result }
 {
     match moves::report(b, c.broadcasts, told, 0, id, frame, x, clock, delay) {
-        casting::Outcome::Refused(e) => doing::denied(c, e),
-        casting::Outcome::Done(n) => Did {
-            counts: doing::with_broadcasts(c, n.sends),
+        Err(e) => doing::denied(c, e),
+        Ok(left) => Did {
+            counts: doing::with_broadcasts(c, left.sends),
             answer: Answer::Accepted,
-            told: n.told,
+            told: left.told,
         },
     }
 }

@@ -1,5 +1,5 @@
 -- What bars a cancel, and whether a search found a record. Assumes nothing.
-use Rattle.std.specs.Prelude.{Option, None, Some}
+use Rattle.std.specs.Prelude.{Option, None, Some, Result}
 use Prim.Native.Nat.{ℕ}
 use mathlib.Core.Path.{◌≡◌, refl, sym, subst, ◌∙◌}
 use mathlib.Core.Bool.{Bool, true, false, ◌||◌}
@@ -12,7 +12,6 @@ use Rattle.rows.specs.Moves.{Turn, any_of}
 use Rattle.rows.specs.Moves.Turn.{Keeps}
 use Rattle.rows.proofs.Promises.{find_first, first_found, first-missed}
 use Rattle.sending.specs.Rules.{sent_copy}
-use Rattle.casting.specs.declared.Outcome as casts
 use Rattle.broadcasts.specs.Calls.{Answered}
 use Rattle.casting.specs.Rules.{in_radio, cancel_bar}
 use Rattle.model.specs.Model.{Effect, lent_model, SoundTables, Does}
@@ -28,10 +27,10 @@ module _ {c : Counts} {ws vs ds bs : List ℕ} (s : SoundTables c ws vs ds bs) w
   does-barred e x p q b t d = rw (p, q, b, t) (does-deny s x d)
 
 -- what a call on a broadcast ensures, once its answer is known
-module _ {bar : Option Broadcast → Option Refusal} {f : Broadcast → Turn Broadcast} {id : ℕ} {bs buf bs' buf' : List ℕ} {n m : ℕ} {o : casts.Outcome}
+module _ {bar : Option Broadcast → Option Refusal} {f : Broadcast → Turn Broadcast} {id : ℕ} {bs buf bs' buf' : List ℕ} {n m : ℕ} {o : Result Counts Refusal}
     (h : Answered id bar f bs n buf m bs' buf' o) where
-  pub answered-as : (x : casts.Outcome) → o ≡ x → Answered id bar f bs n buf m bs' buf' x
-  answered-as x e = subst (λ (y : casts.Outcome). Answered id bar f bs n buf m bs' buf' y) e h
+  pub answered-as : (x : Result Counts Refusal) → o ≡ x → Answered id bar f bs n buf m bs' buf' x
+  answered-as x e = subst (λ (y : Result Counts Refusal). Answered id bar f bs n buf m bs' buf' y) e h
 
 -- whether a search found a record is whether there is one
 module _ {A : Type 0} (key : A → ℕ) (k : ℕ) (xs : List A) {p : Option ℕ} (e : p ≡ find_by key k xs) where

@@ -9,7 +9,7 @@ use broadcasts::moves;
 use model::{Abandoned, Answer, Counts, Did};
 use records::{Broadcast, Refusal, Unicast, Unrouted, times};
 use scanning::asks;
-use unicasts::{Outcome, calls};
+use unicasts::calls;
 use unrouted::Which;
 
 // A unicast is cancelled, a broadcast's copy too: alone.
@@ -26,11 +26,11 @@ fn cancel_unicast(
     ensures { Does (cancel_in (lent_model c w.old v.old d.old b.old) id) told.old w.new v.new d.new b.new told.new result }
 {
     match calls::cancel(w, c.unicasts, told, 0, id) {
-        Outcome::Refused(e) => doing::denied(c, e),
-        Outcome::Done(n, m) => Did {
-            counts: doing::with_unicasts(c, n),
+        Err(e) => doing::denied(c, e),
+        Ok(x) => Did {
+            counts: doing::with_unicasts(c, x.sends),
             answer: Answer::Accepted,
-            told: m,
+            told: x.told,
         },
     }
 }
@@ -79,8 +79,8 @@ fn cancel_broadcast(
         };
     }
     match moves::cancel(b, c.broadcasts, told, 0, id) {
-        casting::Outcome::Refused(e) => doing::denied(c, e),
-        casting::Outcome::Done(x) => {
+        Err(e) => doing::denied(c, e),
+        Ok(x) => {
             let y = calls::cancel_copies(w, c.unicasts, told, x.told, id);
             Did {
                 counts: Counts {

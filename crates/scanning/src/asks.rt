@@ -8,7 +8,7 @@ ghost use Rattle.tables.specs.Layouts.{unicast_table};
 ghost use Rattle.sending.specs.Rules.{keyed, awaits, stirs, sought, pends, beside, sent_copy};
 ghost use Rattle.sending.specs.Lists.{best_step, best_of, wake_of};
 
-use records::{AckKey, Address, Stage};
+use records::{AckKey, Address, Priority, Stage};
 use sending::Sought;
 use tables::unicast_rows;
 

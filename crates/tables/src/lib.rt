@@ -13,6 +13,13 @@ pub mod destination_rows;
 pub mod unicast_rows;
 pub mod unrouted_rows;
 
+// How many sends are left in a table, and the next place in the buffer of what is told.
+#[derive(Clone, Copy)]
+pub struct Counts {
+    pub sends: usize,
+    pub told: usize,
+}
+
 // A record that a table holds: its key, and how it lies in the words of a row. The functions below serve every such record.
 pub trait Record: Copy {
     // The kind of table that such records are kept in.

@@ -1,5 +1,5 @@
 -- How the code's steps on the lent table make up each call. Assumes nothing.
-use Rattle.std.specs.Prelude.{Option, None, Some}
+use Rattle.std.specs.Prelude.{Option, None, Some, Ok, Err}
 use Prim.Native.Nat.{ℕ, ◌<◌}
 use mathlib.Core.Path.{◌≡◌, refl, sym, ap, ◌∙◌, subst}
 use mathlib.Core.Bool.{Bool}
@@ -15,7 +15,6 @@ use Rattle.actions.proofs.Sweeps.{turn-found}
 use Rattle.sending.specs.Types.{Unicast, Refusal}
 use Rattle.sending.specs.declared.UnicastTurn.{UnicastTurn}
 use Rattle.sending.specs.declared.UnicastTurn.TheVariants.{KeepsU, HandsOffU}
-use Rattle.unicasts.specs.declared.Outcome.TheVariants.{Refused, Done}
 use Rattle.sending.specs.Rules.{turn_u, beside}
 use Rattle.sending.specs.Lists.{loan_by}
 use Rattle.unicasts.specs.Calls.{Called}
@@ -50,12 +49,12 @@ module _ {ws buf ws' buf' : List ℕ} {n m n' m' : ℕ} where
 -- ---- a call by id
 
 pub refused : {bar : Option Unicast → Option Refusal} {f : Unicast → Turn Unicast} {id n m : ℕ} {ws buf : List ℕ} {o : Option Unicast} (e : Refusal)
-    → first_of (has_id unicast_entry id) (sends ws n) ≡ o → bar o ≡ Some e → Called bar f id ws n buf m ws buf (Refused e)
+    → first_of (has_id unicast_entry id) (sends ws n) ≡ o → bar o ≡ Some e → Called bar f id ws n buf m ws buf (Err e)
 refused {bar} e p q = record { answer = sym (ap bar p ∙ q); tables = (refl, refl) }
 
-pub done : {bar : Option Unicast → Option Refusal} {f : Unicast → Turn Unicast} {id n m n' m' : ℕ} {ws buf ws' buf' : List ℕ} (h : Held unicast_table ws n) (i : ℕ)
+pub done : {bar : Option Unicast → Option Refusal} {f : Unicast → Turn Unicast} {id n m : ℕ} {c : Counts} {ws buf ws' buf' : List ℕ} (h : Held unicast_table ws n) (i : ℕ)
     → first_at (has_id unicast_entry id) (sends ws n) ≡ Some i → bar (Some (row_at ws i)) ≡ None
-    → Played unicast_table unicast_entry (f (row_at ws i)) i (row_at ws i) ws n buf m ws' n' buf' m' → Called bar f id ws n buf m ws' buf' (Done n' m')
+    → Played unicast_table unicast_entry (f (row_at ws i)) i (row_at ws i) ws n buf m ws' c.sends buf' c.told → Called bar f id ws n buf m ws' buf' (Ok c)
 done {bar} {f} {id} h i e q p =
     record { answer = sym (ap bar (first-row h (has_id unicast_entry id) i e) ∙ q); tables = turn-found h (has_id unicast_entry id) f i e p }
 

@@ -12,9 +12,9 @@ ghost use Rattle.sending.specs.Rules.{turn_u, with_stage, keyed, ack_turn, repor
 ghost use Rattle.sending.specs.Lists.{report_bar, cancel_bar};
 ghost use Rattle.unicasts.specs.Calls.{PolledOne, Dequeued, Called};
 
-use crate::{Counts, Outcome};
 use records::{AckKey, Refusal, Stage, TxResult, Unicast, Verdict};
 use sending::{Due, UnicastTurn, Which};
+use tables::Counts;
 
 // The send at place i is taken out, and told as over.
 fn finish(
@@ -149,14 +149,14 @@ pub fn report(
     res: TxResult,
     clock: u64,
     delay: u32,
-) -> Outcome
+) -> Result<Counts, Refusal>
     requires held { Held unicast_table w.old n }
     requires m_bound { m + 2 ≤ 112 }
     requires clock_le_last_time { clock ≤ last_time }
     ensures { Called (report_bar frame) (report_turn res clock delay) id w.old n told.old m w.new told.new result }
 {
     match tables::find::<Unicast>(w, n, id) {
-        None => Outcome::Refused(Refusal::NoSuchSend),
+        None => Err(Refusal::NoSuchSend),
         Some(i) => {
             let u = tables::load::<Unicast>(w, i);
             let s = u.stage;
@@ -164,32 +164,38 @@ pub fn report(
                 if u.frame == frame {
                     let t = turning::rules::report_turn(u, res, clock, delay);
                     let c = play(w, n, told, m, i, u, t);
-                    return Outcome::Done(c.sends, c.told);
+                    return Ok(c);
                 }
-                return Outcome::Refused(Refusal::OtherFrame);
+                return Err(Refusal::OtherFrame);
             }
-            Outcome::Refused(Refusal::NotInTheRadio)
+            Err(Refusal::NotInTheRadio)
         }
     }
 }
 
 // The send with that id is settled as cancelled: refused where there is none, or it is in the radio.
-pub fn cancel(w: &mut [u64; 320], n: usize, told: &mut [u64; 560], m: usize, id: u32) -> Outcome
+pub fn cancel(
+    w: &mut [u64; 320],
+    n: usize,
+    told: &mut [u64; 560],
+    m: usize,
+    id: u32,
+) -> Result<Counts, Refusal>
     requires held { Held unicast_table w.old n }
     requires m_bound { m + 2 ≤ 112 }
     ensures { Called cancel_bar cancel_turn id w.old n told.old m w.new told.new result }
 {
     match tables::find::<Unicast>(w, n, id) {
-        None => Outcome::Refused(Refusal::NoSuchSend),
+        None => Err(Refusal::NoSuchSend),
         Some(i) => {
             let u = tables::load::<Unicast>(w, i);
             let s = u.stage;
             if turning::rules::is_sending(s) {
-                return Outcome::Refused(Refusal::InTheRadio);
+                return Err(Refusal::InTheRadio);
             }
             let t = turning::rules::cancel_turn(u);
             let c = play(w, n, told, m, i, u, t);
-            Outcome::Done(c.sends, c.told)
+            Ok(c)
         }
     }
 }

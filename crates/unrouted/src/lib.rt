@@ -18,21 +18,14 @@ ghost use Rattle.unrouted.specs.Calls.{Enqueued, Retried, FailedAll, Taken, Aban
 use records::blanks::unrouted_entry;
 use records::times::sooner_of;
 use records::{Confirm, Destination, Priority, SendFailure, Unrouted, Verdict};
-use tables::unrouted_rows;
 use tables::unrouted_rows::UnroutedHead;
+use tables::{Counts, unrouted_rows};
 
 // The sends that a sweep settles: those whose deadline has come by a time, or those to a destination.
 #[derive(Clone, Copy)]
 pub enum Which {
     Lapsed(u64),
     Bound(u16),
-}
-
-// How many sends are left, and the next place in the buffer.
-#[derive(Clone, Copy)]
-pub struct Counts {
-    pub sends: usize,
-    pub told: usize,
 }
 
 // The same, and how many destinations are held.
