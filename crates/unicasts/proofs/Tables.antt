@@ -1,4 +1,5 @@
 -- How the code's steps on the lent table make up each call. Assumes nothing.
+use Rattle.tables.specs.declared.Counts.{Counts}
 use Rattle.std.specs.Prelude.{Option, None, Some, Ok, Err}
 use Prim.Native.Nat.{ℕ, ◌<◌}
 use mathlib.Core.Path.{◌≡◌, refl, sym, ap, ◌∙◌, subst}

@@ -13,8 +13,10 @@ ghost use Rattle.sending.specs.Lists.{report_bar, cancel_bar};
 ghost use Rattle.unicasts.specs.Calls.{PolledOne, Dequeued, Called};
 
 use records::{AckKey, Refusal, Stage, TxResult, Unicast, Verdict};
+use scanning::asks;
 use sending::{Due, UnicastTurn, Which};
 use tables::Counts;
+use tables::unicast_rows;
 
 // The send at place i is taken out, and told as over.
 fn finish(
@@ -93,15 +95,13 @@ pub fn poll(w: &mut [u64; 320], n: usize, eui: Option<u64>, nwk: Option<u16>, cl
     requires { Held unicast_table w.old n }
     ensures { PolledOne eui nwk clock w.old n w.new result }
 {
-    match scanning::asks::first_awaited(w, n, eui, nwk, clock) {
-        None => false,
-        Some(i) => {
-            let u = tables::load::<Unicast>(w, i);
-            let v = turning::rules::polled(u);
-            tables::store(w, n, i, v);
-            true
-        }
-    }
+    let Some(i) = asks::first_awaited(w, n, eui, nwk, clock) else {
+        return false;
+    };
+    let u = tables::load::<Unicast>(w, i);
+    let v = turning::rules::polled(u);
+    tables::store(w, n, i, v);
+    true
 }
 
 // The send with that id goes to the radio.
@@ -109,17 +109,14 @@ pub fn dequeue(w: &mut [u64; 320], n: usize, id: u32) -> Option<(u32, u16, bool)
     requires { Held unicast_table w.old n }
     ensures { Dequeued id w.old n w.new result }
 {
-    match tables::find::<Unicast>(w, n, id) {
-        None => None,
-        Some(i) => {
-            let u = tables::load::<Unicast>(w, i);
-            let a = u.poll_address;
-            let pending = scanning::asks::frame_pending(w, n, id, a);
-            let v = turning::rules::staged(u, Stage::Transmitting(false));
-            tables::store(w, n, i, v);
-            Some((u.frame, u.next_hop, pending))
-        }
-    }
+    let Some(i) = tables::find::<Unicast>(w, n, id) else {
+        return None;
+    };
+    let u = tables::load::<Unicast>(w, i);
+    let pending = asks::frame_pending(w, n, id, u.poll_address);
+    let v = turning::rules::staged(u, Stage::Transmitting(false));
+    tables::store(w, n, i, v);
+    Some((u.frame, u.next_hop, pending))
 }
 
 // An ack came: it goes to the oldest send with that key.
@@ -128,14 +125,12 @@ pub fn ack(w: &mut [u64; 320], n: usize, told: &mut [u64; 560], m: usize, key: A
     requires m_bound { m + 2 ≤ 112 }
     ensures { Turned unicast_table unicast_entry (keyed key) ack_turn w.old n told.old m w.new result.sends told.new result.told }
 {
-    match scanning::asks::first_keyed(w, n, key) {
-        None => Counts { sends: n, told: m },
-        Some(i) => {
-            let u = tables::load::<Unicast>(w, i);
-            let t = turning::rules::ack_turn(u);
-            play(w, n, told, m, i, u, t)
-        }
-    }
+    let Some(i) = asks::first_keyed(w, n, key) else {
+        return Counts { sends: n, told: m };
+    };
+    let u = tables::load::<Unicast>(w, i);
+    let t = turning::rules::ack_turn(u);
+    play(w, n, told, m, i, u, t)
 }
 
 // The radio reports on the send with that id: refused where there is none, it is not in the radio, or has another frame.
@@ -155,49 +150,37 @@ pub fn report(
     requires clock_le_last_time { clock ≤ last_time }
     ensures { Called (report_bar frame) (report_turn res clock delay) id w.old n told.old m w.new told.new result }
 {
-    match tables::find::<Unicast>(w, n, id) {
-        None => Err(Refusal::NoSuchSend),
-        Some(i) => {
-            let u = tables::load::<Unicast>(w, i);
-            let s = u.stage;
-            if turning::rules::is_sending(s) {
-                if u.frame == frame {
-                    let t = turning::rules::report_turn(u, res, clock, delay);
-                    let c = play(w, n, told, m, i, u, t);
-                    return Ok(c);
-                }
-                return Err(Refusal::OtherFrame);
-            }
-            Err(Refusal::NotInTheRadio)
-        }
+    let Some(i) = tables::find::<Unicast>(w, n, id) else {
+        return Err(Refusal::NoSuchSend);
+    };
+    let u = tables::load::<Unicast>(w, i);
+    if !turning::rules::is_sending(u.stage) {
+        return Err(Refusal::NotInTheRadio);
     }
+    if u.frame != frame {
+        return Err(Refusal::OtherFrame);
+    }
+    let t = turning::rules::report_turn(u, res, clock, delay);
+    let c = play(w, n, told, m, i, u, t);
+    Ok(c)
 }
 
 // The send with that id is settled as cancelled: refused where there is none, or it is in the radio.
-pub fn cancel(
-    w: &mut [u64; 320],
-    n: usize,
-    told: &mut [u64; 560],
-    m: usize,
-    id: u32,
-) -> Result<Counts, Refusal>
+pub fn cancel(w: &mut [u64; 320], n: usize, told: &mut [u64; 560], m: usize, id: u32) -> Result<Counts, Refusal>
     requires held { Held unicast_table w.old n }
     requires m_bound { m + 2 ≤ 112 }
     ensures { Called cancel_bar cancel_turn id w.old n told.old m w.new told.new result }
 {
-    match tables::find::<Unicast>(w, n, id) {
-        None => Err(Refusal::NoSuchSend),
-        Some(i) => {
-            let u = tables::load::<Unicast>(w, i);
-            let s = u.stage;
-            if turning::rules::is_sending(s) {
-                return Err(Refusal::InTheRadio);
-            }
-            let t = turning::rules::cancel_turn(u);
-            let c = play(w, n, told, m, i, u, t);
-            Ok(c)
-        }
+    let Some(i) = tables::find::<Unicast>(w, n, id) else {
+        return Err(Refusal::NoSuchSend);
+    };
+    let u = tables::load::<Unicast>(w, i);
+    if turning::rules::is_sending(u.stage) {
+        return Err(Refusal::InTheRadio);
     }
+    let t = turning::rules::cancel_turn(u);
+    let c = play(w, n, told, m, i, u, t);
+    Ok(c)
 }
 
 // The retry at place i is queued.
@@ -220,18 +203,17 @@ fn sweep(w: &mut [u64; 320], sends: usize, told: &mut [u64; 560], at: usize, whi
     let mut n = sends;
     let mut m = at;
     let mut i: usize = 0;
+    // A `while`, since a send that is taken out leaves the next one at its place.
     while i < n {
-        match asking::rules::due_of(tables::unicast_rows::head(w, i), which) {
-            Due::Leave => {
-                i = i + 1;
-            }
+        match asking::rules::due_of(unicast_rows::head(w, i), which) {
+            Due::Leave => i += 1,
             Due::Requeue => {
                 requeue(w, n, i);
-                i = i + 1;
+                i += 1;
             }
             Due::Finish(again, f) => {
                 m = finish(w, n, told, m, i, again, Verdict::Failure(f), None);
-                n = n - 1;
+                n -= 1;
             }
         }
     }
@@ -244,10 +226,11 @@ pub fn tick(w: &mut [u64; 320], n: usize, told: &mut [u64; 560], m: usize, clock
     requires n_bound { m + n * 2 ≤ 112 }
     ensures { Swept unicast_table unicast_entry (tick_turn clock) w.old n told.old m w.new result.sends told.new result.told }
 {
-    if scanning::asks::any_stirs(w, n, clock) {
-        return sweep(w, n, told, m, Which::Lapsed(clock));
+    if asks::any_stirs(w, n, clock) {
+        sweep(w, n, told, m, Which::Lapsed(clock))
+    } else {
+        Counts { sends: n, told: m }
     }
-    Counts { sends: n, told: m }
 }
 
 // A device is no child any more: what awaits its poll fails.

@@ -11,12 +11,12 @@ load-u-requires-clause-there c =
     let e = scan-some (keyed c.args.key) c.args.w.now c.args.n _ c.first_keyed.ensures c.in-Some.is in
     first-room h (keyed c.args.key) _ e
 
-pub returns-in-None : goal.returns-in-None
-returns-in-None c =
-    turn-missed c.requires.held (keyed c.args.key) ack_turn (scan-none (keyed c.args.key) c.args.w.now c.args.n c.first_keyed.ensures c.in-None.is)
+pub returns-in_default : goal.returns-in_default
+returns-in_default c =
+    turn-missed c.requires.held (keyed c.args.key) ack_turn (scan-none (keyed c.args.key) c.args.w.now c.args.n c.first_keyed.ensures c.in_default.is)
 
-pub returns-in-Some : goal.returns-in-Some
-returns-in-Some c =
+pub returns : goal.returns
+returns c =
     let h = c.requires.held in
     let e = scan-some (keyed c.args.key) c.args.w.now c.args.n _ c.first_keyed.ensures c.in-Some.is in
     turn-found h (keyed c.args.key) ack_turn _ e (played-as (c.ack_turn-t.ensures ∙ ap ack_turn c.load-u.ensures) c.load-u.ensures c.play.ensures)

@@ -20,12 +20,12 @@ returns-then-is_sending c =
     let e = find-here c.args.w.now c.args.n c.args.id _ c.find.ensures c.in-Some.is in
     refused InTheRadio (first-row h (has_id unicast_entry c.args.id) _ e) (cancel-sending (row_at c.args.w.now _) (sending-row c.load-u.ensures c.is_sending.ensures c.if-is_sending.true))
 
-pub returns-in-None : goal.returns-in-None
-returns-in-None c =
-    refused NoSuchSend (first-none c.requires.held (has_id unicast_entry c.args.id) (find-nowhere c.args.w.now c.args.n c.args.id c.find.ensures c.in-None.is)) refl
+pub returns-in_default : goal.returns-in_default
+returns-in_default c =
+    refused NoSuchSend (first-none c.requires.held (has_id unicast_entry c.args.id) (find-nowhere c.args.w.now c.args.n c.args.id c.find.ensures c.in_default.is)) refl
 
-pub returns-else-is_sending : goal.returns-else-is_sending
-returns-else-is_sending c =
+pub returns : goal.returns
+returns c =
     let h = c.requires.held in
     let e = find-here c.args.w.now c.args.n c.args.id _ c.find.ensures c.in-Some.is in
     done h _ e (cancel-idle (row_at c.args.w.now _) (sending-row c.load-u.ensures c.is_sending.ensures c.if-is_sending.false))

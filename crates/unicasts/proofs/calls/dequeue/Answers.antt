@@ -15,16 +15,16 @@ load-u-requires-clause-there c =
     let e = find-here c.args.w.now c.args.n c.args.id _ c.find.ensures c.in-Some.is in
     first-room h (has_id unicast_entry c.args.id) _ e
 
-pub returns-in-None : goal.returns-in-None
-returns-in-None c =
-    let e = find-nowhere c.args.w.now c.args.n c.args.id c.find.ensures c.in-None.is in
+pub returns-in_default : goal.returns-in_default
+returns-in_default c =
+    let e = find-nowhere c.args.w.now c.args.n c.args.id c.find.ensures c.in_default.is in
     record {
       answer = sym (ap (loan_by c.args.id (sends c.args.w.now c.args.n)) (first-none c.requires (has_id unicast_entry c.args.id) e));
       table = first-stays c.requires (has_id unicast_entry c.args.id) lend_turn e;
     }
 
-pub returns-in-Some : goal.returns-in-Some
-returns-in-Some c =
+pub returns : goal.returns
+returns c =
     let h = c.requires in
     let e = find-here c.args.w.now c.args.n c.args.id _ c.find.ensures c.in-Some.is in
     record {

@@ -11,13 +11,13 @@ load-u-requires-clause-there c =
     let e = scan-some (awaits c.args.eui c.args.nwk c.args.clock) c.args.w.now c.args.n _ c.first_awaited.ensures c.in-Some.is in
     first-room h (awaits c.args.eui c.args.nwk c.args.clock) _ e
 
-pub returns-in-None : goal.returns-in-None
-returns-in-None c =
-    let e = scan-none (awaits c.args.eui c.args.nwk c.args.clock) c.args.w.now c.args.n c.first_awaited.ensures c.in-None.is in
+pub returns-in_default : goal.returns-in_default
+returns-in_default c =
+    let e = scan-none (awaits c.args.eui c.args.nwk c.args.clock) c.args.w.now c.args.n c.first_awaited.ensures c.in_default.is in
     record { answer = any_none c.requires (awaits c.args.eui c.args.nwk c.args.clock) e; table = first-stays c.requires (awaits c.args.eui c.args.nwk c.args.clock) poll_turn e }
 
-pub returns-in-Some : goal.returns-in-Some
-returns-in-Some c =
+pub returns : goal.returns
+returns c =
     let h = c.requires in
     let e = scan-some (awaits c.args.eui c.args.nwk c.args.clock) c.args.w.now c.args.n _ c.first_awaited.ensures c.in-Some.is in
     record { answer = any-there h (awaits c.args.eui c.args.nwk c.args.clock) _ e; table = first-stored h (awaits c.args.eui c.args.nwk c.args.clock) polled_of _ e (c.polled-v.ensures ∙ ap polled_of c.load-u.ensures) c.store.ensures }

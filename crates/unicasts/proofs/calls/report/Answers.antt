@@ -14,28 +14,28 @@ load-u-requires-clause-there c =
     let e = find-here c.args.w.now c.args.n c.args.id _ c.find.ensures c.in-Some.is in
     first-room h (has_id unicast_entry c.args.id) _ e
 
+pub returns : goal.returns
+returns c =
+    let h = c.requires.held in
+    let e = find-here c.args.w.now c.args.n c.args.id _ c.find.ensures c.in-Some.is in
+    done h _ e (report-frame c.args.frame (row_at c.args.w.now _) (sending-row c.load-u.ensures c.is_sending.ensures c.if-not-is_sending.false) c.load-u.ensures c.if-u-frame.false)
+    (played-as (c.report_turn-t.ensures ∙ ap (report_turn c.args.res c.args.clock c.args.delay) c.load-u.ensures) c.load-u.ensures c.play-c.ensures)
+
 pub returns-then-u-frame : goal.returns-then-u-frame
 returns-then-u-frame c =
     let h = c.requires.held in
     let e = find-here c.args.w.now c.args.n c.args.id _ c.find.ensures c.in-Some.is in
-    done h _ e (report-frame c.args.frame (row_at c.args.w.now _) (sending-row c.load-u.ensures c.is_sending.ensures c.if-is_sending.true) c.load-u.ensures c.if-u-frame.true)
-    (played-as (c.report_turn-t.ensures ∙ ap (report_turn c.args.res c.args.clock c.args.delay) c.load-u.ensures) c.load-u.ensures c.play-c.ensures)
+    refused OtherFrame (first-row h (has_id unicast_entry c.args.id) _ e) (report-other c.args.frame (row_at c.args.w.now _) (sending-row c.load-u.ensures c.is_sending.ensures c.if-not-is_sending.false) c.load-u.ensures c.if-u-frame.true)
 
-pub returns-then-is_sending : goal.returns-then-is_sending
-returns-then-is_sending c =
+pub returns-in_default : goal.returns-in_default
+returns-in_default c =
+    refused NoSuchSend (first-none c.requires.held (has_id unicast_entry c.args.id) (find-nowhere c.args.w.now c.args.n c.args.id c.find.ensures c.in_default.is)) refl
+
+pub returns-then-not-is_sending : goal.returns-then-not-is_sending
+returns-then-not-is_sending c =
     let h = c.requires.held in
     let e = find-here c.args.w.now c.args.n c.args.id _ c.find.ensures c.in-Some.is in
-    refused OtherFrame (first-row h (has_id unicast_entry c.args.id) _ e) (report-other c.args.frame (row_at c.args.w.now _) (sending-row c.load-u.ensures c.is_sending.ensures c.if-is_sending.true) c.load-u.ensures c.if-u-frame.false)
-
-pub returns-in-None : goal.returns-in-None
-returns-in-None c =
-    refused NoSuchSend (first-none c.requires.held (has_id unicast_entry c.args.id) (find-nowhere c.args.w.now c.args.n c.args.id c.find.ensures c.in-None.is)) refl
-
-pub returns-else-is_sending : goal.returns-else-is_sending
-returns-else-is_sending c =
-    let h = c.requires.held in
-    let e = find-here c.args.w.now c.args.n c.args.id _ c.find.ensures c.in-Some.is in
-    refused NotInTheRadio (first-row h (has_id unicast_entry c.args.id) _ e) (report-idle c.args.frame (row_at c.args.w.now _) (sending-row c.load-u.ensures c.is_sending.ensures c.if-is_sending.false))
+    refused NotInTheRadio (first-row h (has_id unicast_entry c.args.id) _ e) (report-idle c.args.frame (row_at c.args.w.now _) (sending-row c.load-u.ensures c.is_sending.ensures c.if-not-is_sending.true))
 
 pub play-c-requires-clause-i_lt_n : goal.play-c-requires-clause-i_lt_n
 play-c-requires-clause-i_lt_n c =
