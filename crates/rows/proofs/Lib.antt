@@ -5,3 +5,4 @@ pub mod Flat
 pub mod Promises
 pub mod Held
 pub mod Answers
+pub mod Chains

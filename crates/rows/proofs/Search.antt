@@ -1,7 +1,7 @@
 -- Rows of words: what is read out of them, and where a search by the first word of each has come to. Assumes nothing.
 use Rattle.std.specs.Prelude.{None, Some}
 use Prim.Native.Nat.{ℕ, zero, suc, ◌+◌, ◌-◌, ◌*◌, ◌≤◌, ◌<◌}
-use native.Mathlib.Nat.{zero-mul, suc-mul, add-mul, add_comm, add-zero, mul-le-mul_right}
+use native.Mathlib.Nat.{zero-mul, suc-mul, add-mul, add_comm, add-zero}
 use native.Mathlib.Numerals.{add-one}
 use native.Mathlib.Omega.{arith}
 use mathlib.Core.Path.{◌≡◌, refl, sym, ap, ◌∙◌}

@@ -1,0 +1,108 @@
+-- What a chain of iterators over the places 0..n of a held table asks: the first with a test, whether there is one, how many there are, and a fold from
+-- the last place down. Over any kind of table. Assumes nothing.
+use Rattle.std.specs.Prelude.{None, Some, option_map}
+use Prim.Native.Nat.{ℕ, zero, suc, ◌+◌, ◌-◌, ◌≤◌, ◌<◌}
+use native.Mathlib.Omega.{arith}
+use mathlib.Core.Path.{◌≡◌, refl, sym, ap, subst, ◌∙◌}
+use mathlib.Core.Bool.{Bool, true, false, cond, ◌||◌}
+use mathlib.Core.List.{List, [], ◌∷◌, ◌++◌, map}
+use lib.ListN.{length, get_or}
+use Rattle.std.specs.declared.ops.Range.{Range}
+use Rattle.std.specs.declared.iter.Rev.{Rev}
+use Rattle.std.specs.Iterator.Adapters.{rev_source, rev_steps}
+use Rattle.std.specs.List.{range_with_len, list_any, filter}
+use Rattle.std.specs.List as std
+use Rattle.std.proofs.iter.runs.Sources.{nat_range_steps_back}
+use Rattle.std.proofs.lemmas.Iterator.{YieldsList}
+use Rattle.std.proofs.lemmas.Iterator.Consumers.{YieldsList-from_shown}
+use Rattle.std.proofs.lemmas.List.FromFn.{fill_by_all, map-range_with_len_more}
+use Rattle.records.specs.Pick.{pick, bit}
+use Rattle.rows.specs.Lists.{fold}
+use Rattle.rows.specs.Tables.{Table, rows_of, live, Held}
+use Rattle.rows.specs.Moves.{first_at, any_of, count}
+use Rattle.rows.proofs.Promises.{held-length, held_at}
+
+-- the numbers from a on, n of them, the last first
+abbrev pub falling : ℕ → ℕ → List ℕ
+falling a zero = []
+falling a (suc n) = (a + n) ∷ falling a n
+
+fallen : (a n b m x : ℕ) → n ≡ suc m → x ≡ a + m → b ≡ a → falling a n ≡ x ∷ falling b m
+fallen a n b m x e f g = rw (e, f, g)
+
+yields_falling : (s : Rev (Range ℕ)) → YieldsList (rev_steps nat_range_steps_back) (λ x. x) s (falling (rev_source s).start ((rev_source s).end - (rev_source s).start))
+yields_falling =
+    YieldsList-from_shown (rev_steps nat_range_steps_back) (λ x. x) (λ s. falling (rev_source s).start ((rev_source s).end - (rev_source s).start))
+    (λ s t p. ap (λ n. length (falling (rev_source s).start n)) p.1.0)
+    (λ s x t p. fallen _ _ _ _ x (omega (arith, p.0, p.1.0, p.1.2)) (omega (arith, p.0, p.1.0, p.1.1, p.1.2)) p.0)
+
+-- they are what `(a..b).rev()` yields
+pub YieldsList-from_rev_range : {s : Rev (Range ℕ)} (a b n : ℕ) → rev_source s ≡ record { start = a; end = b } → b - a ≡ n
+    → YieldsList (rev_steps nat_range_steps_back) (λ x. x) s (falling a n)
+YieldsList-from_rev_range {s} a b n e f =
+    let g : falling (rev_source s).start ((rev_source s).end - (rev_source s).start) ≡ falling a n = ap (λ r. falling r.start (r.end - r.start)) e ∙ ap (falling a) f in
+    subst (λ ks. YieldsList (rev_steps nat_range_steps_back) (λ x. x) s ks) g (yields_falling s)
+
+module _ {A : Type 0} (q : A → Bool) where
+  first-hit : (xs : List A) (d : A) (i : ℕ) → i < length xs → q (get_or xs i d) ≡ true → ((k : ℕ) → k < i → q (get_or xs k d) ≡ false) → first_at q xs ≡ Some i
+  first-hit [] d i l e b = absurd (omega arith)
+  first-hit (x ∷ xs) d zero l e b = rw e refl
+  first-hit (x ∷ xs) d (suc i) l e b = rw (b 0 (omega arith)) (ap (option_map suc) (first-hit xs d i (omega arith) e (λ k h. b (suc k) (omega arith))))
+
+  first-none : (xs : List A) (d : A) → ((k : ℕ) → k < length xs → q (get_or xs k d) ≡ false) → first_at q xs ≡ None
+  first-none [] d b = refl
+  first-none (x ∷ xs) d b = rw (b 0 (omega arith)) (ap (option_map suc) (first-none xs d (λ k h. b (suc k) (omega arith))))
+
+  any-map : (g : ℕ → A) (ks : List ℕ) → list_any (λ k. q (g k)) ks ≡ any_of q (map g ks)
+  any-map g [] = refl
+  any-map g (k ∷ ks) = elim (q (g k)) as (λ b. (b || list_any (λ k. q (g k)) ks) ≡ pick b true (any_of q (map g ks))) [ true ↦ refl | false ↦ any-map g ks ]
+
+  count-map : (g : ℕ → A) (ks : List ℕ) → length (filter (λ k. q (g k)) ks) ≡ count q (map g ks)
+  count-map g [] = refl
+  count-map g (k ∷ ks) =
+      let rest : List ℕ = filter (λ k. q (g k)) ks in
+      elim (q (g k)) as (λ b. length (cond b (k ∷ rest) rest) ≡ bit b + count q (map g ks)) [
+        | true ↦ omega (arith, count-map g ks)
+        | false ↦ omega (arith, count-map g ks)
+      ]
+
+module _ {A B : Type 0} (f : A → B → B) where
+  fold-last : (z : B) (xs : List A) (x : A) → fold f z (xs ++ (x ∷ [])) ≡ fold f (f x z) xs
+  fold-last z [] x = refl
+  fold-last z (y ∷ xs) x = ap (f y) (fold-last z xs x)
+
+  fold-falling : (g : ℕ → A) (n : ℕ) (z : B) → std.fold (λ b k. f (g k) b) z (falling 0 n) ≡ fold f z (map g (range_with_len 0 n))
+  fold-falling g zero z = refl
+  fold-falling g (suc n) z =
+      let e : suc n ≡ n + 1 = omega arith in
+      fold-falling g n (f (g (0 + n)) z) ∙ sym (fold-last z (map g (range_with_len 0 n)) (g (0 + n)))
+      ∙ ap (fold f z) (sym (map-range_with_len_more g 0 n (0 + n) refl) ∙ ap (λ m. map g (range_with_len 0 m)) (sym e))
+
+module _ {A : Type 0} {t : Table A} {ws : List ℕ} {n : ℕ} (h : Held t ws n) where
+  abbrev row : ℕ → A
+  row i = get_or (rows_of t ws) i t.blank
+
+  live-made : live t ws n ≡ map row (range_with_len 0 n)
+  live-made = fill_by_all row (live t ws n) n t.blank (held-length h) (λ k l. held_at h k t.blank l)
+
+  -- what `find` answers
+  pub place-found : (q : A → Bool) (i : ℕ) → i < n → q (get_or (rows_of t ws) i t.blank) ≡ true
+      → ((k : ℕ) → 0 ≤ k → k < i → q (get_or (rows_of t ws) k t.blank) ≡ false) → first_at q (live t ws n) ≡ Some i
+  place-found q i l e b =
+      first-hit q (live t ws n) t.blank i (omega (arith, held-length h)) (ap q (held_at h i t.blank l) ∙ e)
+      (λ k m. ap q (held_at h k t.blank (omega arith)) ∙ b k (omega arith) m)
+
+  pub place-missed : (q : A → Bool) → ((k : ℕ) → 0 ≤ k → k < n → q (get_or (rows_of t ws) k t.blank) ≡ false) → first_at q (live t ws n) ≡ None
+  place-missed q b =
+      first-none q (live t ws n) t.blank (λ k m. let l : k < n = omega (arith, held-length h) in ap q (held_at h k t.blank l) ∙ b k (omega arith) l)
+
+  -- what `any` answers, and `filter` with `count`
+  pub any-place : (q : A → Bool) → list_any (λ k. q (get_or (rows_of t ws) k t.blank)) (range_with_len 0 n) ≡ any_of q (live t ws n)
+  any-place q = any-map q row (range_with_len 0 n) ∙ ap (any_of q) (sym live-made)
+
+  pub count-places : (q : A → Bool) → length (filter (λ k. q (get_or (rows_of t ws) k t.blank)) (range_with_len 0 n)) ≡ count q (live t ws n)
+  count-places q = count-map q row (range_with_len 0 n) ∙ ap (count q) (sym live-made)
+
+  -- what `rev` with `fold` answers
+  pub fold-places : {B : Type 0} (f : A → B → B) (z : B) → std.fold (λ b k. f (get_or (rows_of t ws) k t.blank) b) z (falling 0 n) ≡ fold f z (live t ws n)
+  fold-places f z = fold-falling f row n z ∙ ap (fold f z) (sym live-made)
