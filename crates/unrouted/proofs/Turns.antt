@@ -1,11 +1,7 @@
 -- What the tests of the code say of a send's turn, and of the lists. Assumes nothing.
-<<<<<<< ours
 use Rattle.std.specs.Prelude.{None}
-use Prim.Native.Nat.{ℕ}
-=======
 use Prim.Native.Nat.{ℕ, ◌≤◌}
 use native.Mathlib.Omega.{arith}
->>>>>>> theirs
 use mathlib.Core.Path.{◌≡◌, sym, ap, ◌∙◌}
 use mathlib.Core.Bool.{Bool, true, false}
 use mathlib.Core.List.{List}
@@ -30,12 +26,8 @@ pub turn-chosen : (which : Which) (u : Unrouted) {f : SendFailure} → chosen wh
 turn-chosen which u e g = ap (λ (b : Bool). pick b (Settles false (Failure (failure_of which)) None) (Keeps u)) e ∙ ap (λ (f : SendFailure). Settles false (Failure f) None) (sym g)
 
 pub turn-left : (which : Which) (u : Unrouted) → chosen which u ≡ false → sweep_turn which u ≡ Keeps u
-<<<<<<< ours
 turn-left which u e = ap (λ (b : Bool). pick b (Settles false (Failure (failure_of which)) None) (Keeps u)) e
-=======
-turn-left which u e = ap (λ (b : Bool). pick b (Settles false (Failure (failure_of which)) None16) (Keeps u)) e
 
 pub bit_le : (b : Bool) → bit b ≤ 1
 bit_le true = omega arith
 bit_le false = omega arith
->>>>>>> theirs
