@@ -41,7 +41,7 @@ module _ (u : Unrouted) (us : List Unrouted) (hs : List Destination) where
   pub granted : (attempts : ℕ) {n k : ℕ} → no_room u us hs ≡ false → n ≡ length (insert_by unrouted_id u us) → k ≡ length (holding attempts u.destination hs)
       → Some (n, k) ≡ enqueue_of attempts u us hs
   granted attempts e p q =
-      ap₂ Some (p, q) ∙ sym (ap (λ (b : Bool). pick b None (Some ((length (insert_by unrouted_id u us)), (length (holding attempts u.destination hs))))) e)
+      ap₂ (λ (i j : ℕ). Some (i, j)) p q ∙ sym (ap (λ (b : Bool). pick b None (Some ((length (insert_by unrouted_id u us)), (length (holding attempts u.destination hs))))) e)
 
 -- ---- a retry
 

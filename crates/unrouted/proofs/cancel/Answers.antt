@@ -11,12 +11,12 @@ use Rattle.unrouted.proofs.cancel.Goals as goal
 pub returns-in-None : goal.returns-in-None
 returns-in-None c =
     turn-missed c.requires.held (has_id unrouted_entry c.args.id) cancel_turn
-    (sym (find_first unrouted_id c.args.id (live unrouted_table c.args.w.now c.args.n)) ∙ (sym c.find.ensures) ∙ c.in-None.is)
+    (sym (find_first unrouted_id c.args.id (live unrouted_table c.args.w.now c.args.n)) ∙ (sym c.find.ensures ∙ c.in-None.is))
 
 pub returns-in-Some : goal.returns-in-Some
 returns-in-Some c =
     turn-found c.requires.held (has_id unrouted_entry c.args.id) cancel_turn _
-    (sym (find_first unrouted_id c.args.id (live unrouted_table c.args.w.now c.args.n)) ∙ (sym c.find.ensures) ∙ c.in-Some.is) c.drop_at-next.ensures
+    (sym (find_first unrouted_id c.args.id (live unrouted_table c.args.w.now c.args.n)) ∙ (sym c.find.ensures ∙ c.in-Some.is)) c.drop_at-next.ensures
 
 pub drop_at-next-requires-clause-i_lt_n : goal.drop_at-next-requires-clause-i_lt_n
-drop_at-next-requires-clause-i_lt_n c = hit-lt c.requires.held _ _ ((sym c.find.ensures) ∙ c.in-Some.is)
+drop_at-next-requires-clause-i_lt_n c = hit-lt c.requires.held _ _ ((sym c.find.ensures ∙ c.in-Some.is))

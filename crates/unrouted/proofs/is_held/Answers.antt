@@ -16,9 +16,9 @@ held_at d h = eqb h.address d
 pub returns-in-Some : goal.returns-in-Some
 returns-in-Some c =
     sym (first_found (held_at c.args.destination) Keeps blank_destination (live destination_table c.args.d.now c.args.k) _ (sym (find_first destination_address c.args.destination (live destination_table c.args.d.now c.args.k))
-    ∙ (sym c.find.ensures)) ∙ c.in-Some.is).any
+    ∙ (sym c.find.ensures ∙ c.in-Some.is))).any
 
 pub returns-in_default : goal.returns-in_default
 returns-in_default c =
     sym (first-missed (held_at c.args.destination) Keeps (live destination_table c.args.d.now c.args.k) (sym (find_first destination_address c.args.destination (live destination_table c.args.d.now c.args.k))
-    ∙ (sym c.find.ensures)) ∙ c.in_default.is).any
+    ∙ (sym c.find.ensures ∙ c.in_default.is))).any

@@ -21,11 +21,11 @@ abbrev spent : Destination → Turn Destination
 spent h = Keeps (record { address = h.address; retries = h.retries - 1 })
 
 pub load-h-requires : goal.load-h-requires
-load-h-requires c = omega (arith, hit-lt c.requires.held_2 _ _ ((sym c.find.ensures) ∙ c.in-Some.is), c.requires.held_2.within)
+load-h-requires c = omega (arith, hit-lt c.requires.held_2 _ _ ((sym c.find.ensures ∙ c.in-Some.is)), c.requires.held_2.within)
 
 pub returns-then-h-eq0 : goal.returns-then-h-eq0
 returns-then-h-eq0 c =
-    let e = hit-lookup c.requires.held_2 _ _ ((sym c.find.ensures) ∙ c.in-Some.is) ∙ ap Some (sym c.load-h.ensures) in
+    let e = hit-lookup c.requires.held_2 _ _ ((sym c.find.ensures ∙ c.in-Some.is)) ∙ ap Some (sym c.load-h.ensures) in
     let us = live unrouted_table c.args.w.now c.args.n in
     let hs = live destination_table c.args.d.now c.args.k in
     let no : Declined ≡ retry_of c.args.destination us hs =
