@@ -1,6 +1,6 @@
 -- What a chain of iterators over the places 0..n of a held table asks: the first with a test, whether there is one, how many there are, and a fold from
--- the last place down. Over any kind of table. Assumes nothing.
-use Rattle.std.specs.Prelude.{None, Some, option_map}
+-- the last place down. Over any kind of table. What a caller says of its closure is that it answers the test, at the record of each place. Assumes nothing.
+use Rattle.std.proofs.Common.{Option, None, Some, option_map, MatchOption}
 use Prim.Native.Nat.{ℕ, zero, suc, ◌+◌, ◌-◌, ◌≤◌, ◌<◌}
 use native.Mathlib.Omega.{arith}
 use mathlib.Core.Path.{◌≡◌, refl, sym, ap, subst, ◌∙◌}
@@ -9,12 +9,19 @@ use mathlib.Core.List.{List, [], ◌∷◌, ◌++◌, map}
 use lib.ListN.{length, get_or}
 use Rattle.std.specs.declared.ops.Range.{Range}
 use Rattle.std.specs.declared.iter.Rev.{Rev}
+use Rattle.std.specs.Bool.{⊤}
+use Rattle.std.specs.Fn.{Called, CalledAt}
+use Rattle.std.specs.Iterator.{YieldsThen, Drains}
 use Rattle.std.specs.Iterator.Adapters.{rev_source, rev_steps}
-use Rattle.std.specs.List.{range_with_len, list_any, filter}
+use Rattle.std.specs.List.{range_with_len, list_any, filter, FoldsTo}
 use Rattle.std.specs.List as std
+use Rattle.std.proofs.iter.Yields.{nat_range_steps}
 use Rattle.std.proofs.iter.runs.Sources.{nat_range_steps_back}
-use Rattle.std.proofs.lemmas.Iterator.{YieldsList}
-use Rattle.std.proofs.lemmas.Iterator.Consumers.{YieldsList-from_shown}
+use Rattle.std.proofs.lemmas.Iterator.{YieldsList, YieldsList-from_range, first_from_Range}
+use Rattle.std.proofs.lemmas.Iterator.Consumers.{YieldsList-from_shown, fold_from_yields_List}
+use Rattle.std.proofs.lemmas.Iterator.Search.{any_from_yields_List}
+use denote.Param.Members.{Mut}
+use denote.Ref.{Bor}
 use Rattle.std.proofs.lemmas.List.FromFn.{fill_by_all, map-range_with_len_more}
 use Rattle.records.specs.Pick.{pick, bit}
 use Rattle.rows.specs.Lists.{fold}
@@ -106,3 +113,32 @@ module _ {A : Type 0} {t : Table A} {ws : List ℕ} {n : ℕ} (h : Held t ws n) 
   -- what `rev` with `fold` answers
   pub fold-places : {B : Type 0} (f : A → B → B) (z : B) → std.fold (λ b k. f (get_or (rows_of t ws) k t.blank) b) z (falling 0 n) ≡ fold f z (live t ws n)
   fold-places f z = fold-falling f row n z ∙ ap (fold f z) (sym live-made)
+
+  -- ---- the chains themselves, by what the closure answers at a place
+
+  -- the places, from the first up
+  abbrev pub places : Range ℕ
+  places = record { start = 0; end = n }
+
+  -- `(0..n).find(..)`
+  pub find-is : (q : A → Bool) (u : Range ℕ) {F : Type 0} {g : Mut F (Bor ℕ × Unit {0}) Bool} {fn : F} {r : Option ℕ}
+      → (xs : List ℕ) × (j : F) × YieldsThen nat_range_steps places xs r u × FoldsTo (λ p x k. CalledAt g p x false k) fn xs j × MatchOption r ⊤ (λ x. (k : F) × CalledAt g j x true k)
+      → ((x : ℕ) (b : Bool) (k : F) → CalledAt g fn x b k → (k ≡ fn) × (b ≡ q (row x))) → r ≡ first_at q (live t ws n)
+  find-is q u {r = r} ran call =
+      go r (first_from_Range places u _ r (λ k. q (row k) ≡ true) (λ k. q (row k) ≡ false) ran (λ x k c. sym (call x true k c).1) (λ x k c. let p = call x false k c in (p.0, sym p.1)))
+    where
+      go : (o : Option ℕ) → MatchOption o ((k : ℕ) → 0 ≤ k → k < n → q (row k) ≡ false) (λ i. (0 ≤ i) × (i < n) × (q (row i) ≡ true) × ((k : ℕ) → 0 ≤ k → k < i → q (row k) ≡ false)) → o ≡ first_at q (live t ws n)
+      go None b = sym (place-missed q b)
+      go (Some i) p = sym (place-found q i p.1 p.2 p.3)
+
+  -- `(0..n).any(..)`
+  pub any-is : (q : A → Bool) {F : Type 0} {g : Mut F (ℕ × Unit {0}) Bool} {fn : F} {u : Range ℕ} {r : Bool}
+      → (xs : List ℕ) × (o : Option ℕ) × (j : F) × YieldsThen nat_range_steps places xs o u × FoldsTo (λ p x k. Called g p (x, tt) false k) fn xs j × MatchOption o (r ≡ false) (λ x. (r ≡ true) × ((k : F) × Called g j (x, tt) true k))
+      → ((x : ℕ) (b : Bool) (k : F) → Called g fn (x, tt) b k → (k ≡ fn) × (b ≡ q (row x))) → r ≡ any_of q (live t ws n)
+  any-is q ran call = any_from_yields_List (λ k. q (row k)) _ _ _ ran (YieldsList-from_range 0 n n refl (omega arith)) call ∙ any-place q
+
+  -- `(0..n).rev().fold(..)`
+  pub fold-is : {B : Type 0} (f : A → B → B) (z : B) {F : Type 0} {g : Mut F (B × (ℕ × Unit {0})) B} {fn : F} {s : Rev (Range ℕ)} {r : B} → rev_source s ≡ places
+      → (xs : List ℕ) × (j : F) × Drains (rev_steps nat_range_steps_back) s xs × FoldsTo {P = F × B} (λ p x k. Called g p.0 (p.1, (x, tt)) k.1 k.0) (fn, z) xs (j, r)
+      → ((a : B) (x : ℕ) (b : B) (k : F) → Called g fn (a, (x, tt)) b k → (k ≡ fn) × (b ≡ f (row x) a)) → r ≡ fold f z (live t ws n)
+  fold-is f z e ran call = fold_from_yields_List _ (λ b k. f (row k) b) z _ ran (YieldsList-from_rev_range 0 n n e (omega arith)) call ∙ fold-places f z

@@ -1,17 +1,19 @@
 -- What the code's tests and searches say of enqueueing, retrying and taking. Assumes nothing.
-use Rattle.std.specs.Prelude.{Option, None, Some, option_map}
+use Rattle.std.specs.Prelude.{Option, None, Some, option_map, is_some, unwrap_or}
 use Prim.Native.Nat.{ℕ, suc, ◌≤◌, ◌<◌}
 use native.Mathlib.Omega.{arith}
 use mathlib.Core.Path.{◌≡◌, refl, sym, ap, ap₂, ◌∙◌}
 use mathlib.Core.Bool.{Bool, true, false, not, ◌&&◌, ◌||◌}
 use mathlib.Core.List.{List, [], ◌∷◌}
 use lib.ListN.{length}
-use lib.Dec.{ltb, leb}
+use lib.Dec.{ltb, leb, eqb}
 use borrow.Author.Tests.{le-leb, lt-leb, lt-ltb, le-ltb}
 use Rattle.records.specs.Pick.{pick}
 use Rattle.records.specs.Records.{unrouted_id, destination_address}
-use Rattle.rows.specs.Lists.{insert_by, remove_at, lookup}
+use Rattle.rows.specs.Lists.{insert_by, remove_at, lookup, find_by}
 use Rattle.rows.specs.Moves.{first_at, any_of}
+use Rattle.rows.specs.Tables.{Table, live, Held, Holds, Entered}
+use Rattle.rows.proofs.Promises.{find_first, never-full}
 use Rattle.unrouted.specs.Types.{Unrouted, Destination, NotHeld, Declined, Granted}
 use Rattle.unrouted.specs.Rules.{goes_to, is_held, holding, no_room, enqueue_of, retry_by, retry_of, drop_first}
 
@@ -36,12 +38,37 @@ module _ (u : Unrouted) (us : List Unrouted) (hs : List Destination) where
 
   pub refused : (attempts : ℕ) → no_room u us hs ≡ true → None ≡ enqueue_of attempts u us hs
   refused attempts e =
-      sym (ap (λ (b : Bool). pick b None (Some ((length (insert_by unrouted_id u us)), (length (holding attempts u.destination hs))))) e)
+      sym (ap (λ (b : Bool). pick b None (Some (length (insert_by unrouted_id u us), length (holding attempts u.destination hs)))) e)
 
   pub granted : (attempts : ℕ) {n k : ℕ} → no_room u us hs ≡ false → n ≡ length (insert_by unrouted_id u us) → k ≡ length (holding attempts u.destination hs)
       → Some (n, k) ≡ enqueue_of attempts u us hs
-  granted attempts e p q =
-      ap₂ (λ (i j : ℕ). Some (i, j)) p q ∙ sym (ap (λ (b : Bool). pick b None (Some ((length (insert_by unrouted_id u us)), (length (holding attempts u.destination hs))))) e)
+  granted attempts {n} {k} e p q =
+      ap (λ (i : ℕ). Some (i, k)) p ∙ ap (λ (j : ℕ). Some (length (insert_by unrouted_id u us), j)) q ∙ sym (ap (λ (b : Bool). pick b None (Some (length (insert_by unrouted_id u us), length (holding attempts u.destination hs)))) e)
+
+-- ---- a record that enters where a place is free
+
+module _ {A : Type 0} {t : Table A} {ws ws' : List ℕ} {n : ℕ} {u : A} where
+  pub enters : (d : ℕ) (r : Option ℕ) → Held t ws n → n < t.room → Entered t ws n u ws' r → Holds t ws' (unwrap_or r d) (insert_by t.key u (live t ws n))
+  enters d None h l e = absurd (never-full h l e refl)
+  enters d (Some m) h l e = e.table
+
+-- ---- a destination that is held
+
+-- it is held where a look for it finds a place
+pub held-is : (d : ℕ) (hs : List Destination) {o : Option ℕ} → o ≡ find_by destination_address d hs → is_some o ≡ is_held d hs
+held-is d hs e = ap is_some (e ∙ find_first destination_address d hs) ∙ go hs
+  where
+    more : (o : Option ℕ) → is_some (option_map suc o) ≡ is_some o
+    more None = refl
+    more (Some i) = refl
+
+    here : (b : Bool) (o : Option ℕ) {r : Bool} → is_some o ≡ r → is_some (pick b (Some 0) (option_map suc o)) ≡ pick b true r
+    here true o e = refl
+    here false o e = more o ∙ e
+
+    go : (hs : List Destination) → is_some (first_at (λ (h : Destination). eqb h.address d) hs) ≡ is_held d hs
+    go [] = refl
+    go (h ∷ hs) = here (eqb h.address d) (first_at (λ (h : Destination). eqb h.address d) hs) (go hs)
 
 -- ---- a retry
 

@@ -81,7 +81,7 @@ no_room u us hs = leb unrouted_room (length us) || (not (is_held u.destination h
 
 abbrev pub enqueue_of : ℕ → Unrouted → List Unrouted → List Destination → Option (ℕ × ℕ)
 enqueue_of attempts u us hs =
-    pick (no_room u us hs) None (Some ((length (insert_by unrouted_id u us)), (length (holding attempts u.destination hs))))
+    pick (no_room u us hs) None (Some (length (insert_by unrouted_id u us), length (holding attempts u.destination hs)))
 
 -- a retry: refused where the destination is not held; yes and one less if its count is above 0 and a send waits; otherwise no
 abbrev pub retry_by : Bool → Option Destination → Retry

@@ -145,10 +145,7 @@ pub fn first_to(w: &[u64; 112], n: usize, destination: u16) -> Option<usize>
     ensures { result ≡ first_at (goes_to destination) (live unrouted_table w.now n) }
 {
     let which = Which::Bound(destination);
-    match (0..n).find(|i| chosen(unrouted_rows::head(w, *i), which)) {
-        Some(i) => Some(i),
-        None => None,
-    }
+    (0..n).find(|i| chosen(unrouted_rows::head(w, *i), which))
 }
 
 // Whether a send waits for a destination's route.
@@ -192,14 +189,10 @@ pub fn take(w: &mut [u64; 112], n: usize, destination: u16) -> Option<Unrouted>
     requires { Held unrouted_table w.old n }
     ensures { Taken destination w.old n w.new result }
 {
-    match first_to(w, n, destination) {
-        None => None,
-        Some(i) => {
-            let u = tables::load::<Unrouted>(w, i);
-            tables::remove_at::<Unrouted>(w, n, i);
-            Some(u)
-        }
-    }
+    let i = first_to(w, n, destination)?;
+    let u = tables::load::<Unrouted>(w, i);
+    tables::remove_at::<Unrouted>(w, n, i);
+    Some(u)
 }
 
 // The send with that id is settled as cancelled; its destination stays held.
@@ -226,10 +219,7 @@ pub fn is_held(d: &[u64; 32], k: usize, destination: u16) -> bool
     requires { Held destination_table d.now k }
     ensures { result ≡ is_held destination (live destination_table d.now k) }
 {
-    matches!(
-        tables::find::<Destination>(d, k, destination as u32),
-        Some(_)
-    )
+    tables::find::<Destination>(d, k, destination as u32).is_some()
 }
 
 // The held destination at a place; they rise from place to place.
@@ -246,10 +236,7 @@ fn enter(w: &mut [u64; 112], n: usize, u: Unrouted) -> usize
     requires n_bound { n < 16 }
     ensures { Holds unrouted_table w.new result (insert_by unrouted_id u (live unrouted_table w.old n)) }
 {
-    match tables::insert(w, n, u) {
-        None => n,
-        Some(m) => m,
-    }
+    tables::insert(w, n, u).unwrap_or(n)
 }
 
 // A new destination is held, with a restart for each attempt after the first, where a place is free.
@@ -262,10 +249,7 @@ fn hold(d: &mut [u64; 32], k: usize, destination: u16, attempts: u8) -> usize
         address: destination,
         retries: attempts.saturating_sub(1),
     };
-    match tables::insert(d, k, h) {
-        None => k,
-        Some(m) => m,
-    }
+    tables::insert(d, k, h).unwrap_or(k)
 }
 
 // The send is enqueued and its destination held, or nothing is done.

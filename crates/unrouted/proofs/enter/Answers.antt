@@ -1,5 +1,5 @@
-use Rattle.rows.proofs.Promises.{never-full}
+use Rattle.unrouted.proofs.Lists.{enters}
 use Rattle.unrouted.proofs.enter.Goals as goal
 
-pub returns-in-None : goal.returns-in-None
-returns-in-None c = absurd (never-full c.requires.held c.requires.n_bound c.insert.ensures c.in-None.is)
+pub returns : goal.returns
+returns c = rw c.unwrap_or.ensures (enters _ _ c.requires.held c.requires.n_bound c.insert.ensures)
