@@ -29,7 +29,7 @@ use Rattle.model.specs.Steps.Reply.{Says}
 use Rattle.model.specs.Sound.{SoundModel}
 use Rattle.model.proofs.Kepts.{all_insert, all-only}
 use Rattle.model.proofs.Sounds.{fresh-sound, step-sound}
-use Rattle.claims.specs.CausesTypes.{Address, Absent, Short, Extended, Stage, Queued, Transmitting, Retrying, AwaitingPoll, AwaitingApsAck, AckKey, QuorumKey, Unicast, Unrouted, Destination, Broadcast, Settings, TxResult, Verdict, Success, Failure, Code, Action, HandedOff, Settled, Refusal, TimeTooLate, IdsExhausted, NoCopies, NoPlace, ResultsMismatch, Best, Ready, Lapsed, Bound, Retry, NotHeld, Declined, Granted, NewUnicast, NewUnrouted, NewBroadcast, Resolved, Lender, FromUnicasts, FromBroadcasts, Answer, Denied, Accepted, Issued}
+use Rattle.claims.specs.CausesTypes.{Priority, Address, Absent, Short, Extended, Stage, Queued, Transmitting, Retrying, AwaitingPoll, AwaitingApsAck, AckKey, QuorumKey, Unicast, Unrouted, Destination, Broadcast, Settings, TxResult, Verdict, Success, Failure, Code, Action, HandedOff, Settled, Refusal, TimeTooLate, IdsExhausted, NoCopies, NoPlace, ResultsMismatch, Lapsed, Bound, Retry, NotHeld, Declined, Granted, NewUnicast, NewUnrouted, NewBroadcast, Resolved, Lender, FromUnicasts, FromBroadcasts, Answer, Denied, Accepted, Issued}
 use Rattle.claims.specs.Causes.Want.{AnAck, AReport, AReportAndQuorum}
 use Rattle.claims.specs.Causes.{Fact, Ever, Want, confirm_want, schedule_want, want_of, Enqueued, Acked, Reported, Heard, SuccessForCause, HandedOffForCause, OneWant, PollTellsNothing, FailedIsNoSuccess}
 use Rattle.claims.proofs.CausesMoves.{all_append, all-at, first-there, is-oldest, ForCause, each-kept, each-told, first-kept, first-told}
@@ -151,11 +151,11 @@ module _ (E : Fact → Type 0) where
     dequeue-fair : (now : ℕ) → Fair (dequeue_of m now)
     dequeue-fair now = either Fair (late now) (refused TimeTooLate) (go (unis.best_of now m.unicasts) (bro.best_of now m.broadcasts))
       where
-        go : (a : Best) (b : Option (ℕ × ℕ)) → Fair (lend_best m a b)
+        go : (a : Option (ℕ × Priority)) (b : Option (ℕ × ℕ)) → Fair (lend_best m a b)
         go None None = quiet m _ t
         go None (Some (j, q)) = lend-broadcast j
-        go (Ready i p) None = lend-unicast i
-        go (Ready i p) (Some (j, q)) = either Fair (unicast_first i (rank_of p) j q) (lend-unicast i) (lend-broadcast j)
+        go (Some (i, p)) None = lend-unicast i
+        go (Some (i, p)) (Some (j, q)) = either Fair (unicast_first i (rank_of p) j q) (lend-unicast i) (lend-broadcast j)
 
     -- a report is accepted, or nothing changes
     accept : (late : Bool) (o : Option Refusal) (e : Effect) → e.answer ≡ Accepted → ((pick late (denied m TimeTooLate) (unless m o e)).answer ≡ Accepted → Fair e)
@@ -393,11 +393,11 @@ next_grows m c = go c
     barred None e l = l
     barred (Some x) e l = same
 
-    lends : (a : Best) (b : Option (ℕ × ℕ)) → Grows (lend_best m a b)
+    lends : (a : Option (ℕ × Priority)) (b : Option (ℕ × ℕ)) → Grows (lend_best m a b)
     lends None None = same
     lends None (Some (j, q)) = same
-    lends (Ready i p) None = same
-    lends (Ready i p) (Some (j, q)) = either Grows (unicast_first i (rank_of p) j q) same same
+    lends (Some (i, p)) None = same
+    lends (Some (i, p)) (Some (j, q)) = either Grows (unicast_first i (rank_of p) j q) same same
 
     reports : (from : Lender) (id frame : ℕ) (x : TxResult) (now delay : ℕ) → Grows (report_in m from id frame x now delay)
     reports FromUnicasts id frame x now delay = barred (unis.report_bar frame (first_of (has_id unicast_entry id) m.unicasts)) _ same

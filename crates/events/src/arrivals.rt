@@ -6,6 +6,7 @@ use crate::Event;
 use fields::numbers::{byte_at, u16_at, u32_at, u64_at};
 use fields::parts::{address_at, confirm_at, priority_by, schedule_at};
 use model::{NewBroadcast, NewUnicast, NewUnrouted};
+use records::{Address, Confirm, Priority, Schedule};
 
 // ---- a unicast
 
@@ -19,17 +20,14 @@ pub(crate) fn unicast_with(
 ) -> Option<NewUnicast>
     ensures { result ≡ unicast_with frame waiter hop level address settling }
 {
-    match (level, address, settling) {
-        (Some(priority), Some(poll_address), Some(confirm)) => Some(NewUnicast {
-            frame,
-            waiter,
-            priority,
-            confirm,
-            next_hop: hop,
-            poll_address,
-        }),
-        _ => None,
-    }
+    Some(NewUnicast {
+        frame,
+        waiter,
+        priority: level?,
+        confirm: settling?,
+        next_hop: hop,
+        poll_address: address?,
+    })
 }
 
 pub(crate) fn unicast_at(b: &[u8], at: usize) -> Option<NewUnicast>

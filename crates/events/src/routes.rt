@@ -14,15 +14,8 @@ fn unreached_by(hop: u16, address: Address, code: u16) -> Option<Resolved>
     ensures { result ≡ unreached_by hop address code }
 {
     match address {
-        Address::Absent => {
-            if hop == 0 {
-                Some(Err(code))
-            } else {
-                None
-            }
-        }
-        Address::Short(_) => None,
-        Address::Extended(_) => None,
+        Address::Absent if hop == 0 => Some(Err(code)),
+        _ => None,
     }
 }
 
@@ -30,13 +23,7 @@ fn resolved_by(tag: u8, hop: u16, address: Address, code: u16) -> Option<Resolve
     ensures { result ≡ resolved_by tag hop address code }
 {
     match tag {
-        0 => {
-            if code == 0 {
-                Some(Ok((hop, address)))
-            } else {
-                None
-            }
-        }
+        0 if code == 0 => Some(Ok((hop, address))),
         1 => unreached_by(hop, address, code),
         _ => None,
     }
@@ -45,10 +32,7 @@ fn resolved_by(tag: u8, hop: u16, address: Address, code: u16) -> Option<Resolve
 fn resolved_with(tag: u8, hop: u16, address: Option<Address>, code: u16) -> Option<Resolved>
     ensures { result ≡ resolved_with tag hop address code }
 {
-    match address {
-        Some(a) => resolved_by(tag, hop, a, code),
-        None => None,
-    }
+    resolved_by(tag, hop, address?, code)
 }
 
 pub(crate) fn resolved_at(b: &[u8], at: usize) -> Option<Resolved>
@@ -65,19 +49,13 @@ pub(crate) fn resolved_at(b: &[u8], at: usize) -> Option<Resolved>
 fn result_in(x: Option<Resolved>) -> Resolved
     ensures { result ≡ result_in x }
 {
-    match x {
-        Some(y) => y,
-        None => Err(0),
-    }
+    x.unwrap_or(Err(0))
 }
 
 fn in_form(x: Option<Resolved>) -> bool
     ensures { result ≡ in_form x }
 {
-    match x {
-        Some(_) => true,
-        None => false,
-    }
+    x.is_some()
 }
 
 // ---- the sixteen of them

@@ -4,8 +4,9 @@ ghost use Rattle.events.specs.Signals.{settings_in, settings_of, dequeue_of, rep
 
 use crate::Event;
 use fields::numbers::{byte_at, u16_at, u32_at, u64_at};
-use fields::parts::{address_at, key_at, lender_by, opt16_by, opt64_by, result_by};
-use records::{Address, QuorumKey, Settings};
+use fields::parts::{address_at, key_at, lender_by, opt_by, result_by};
+use model::Lender;
+use records::{Address, QuorumKey, Settings, TxResult};
 
 pub fn settings_in(b: &[u8]) -> Settings
     requires { 10 ≤ length b.now }
@@ -91,8 +92,10 @@ pub fn decode_poll(b: &[u8]) -> Event
     ensures { result ≡ poll_of b.now }
 {
     let clock = u64_at(b, 0);
-    let extended = opt64_by(byte_at(b, 8), u64_at(b, 9));
-    let short = opt16_by(byte_at(b, 17), u16_at(b, 18));
+    let eui = u64_at(b, 9);
+    let extended = opt_by(byte_at(b, 8), eui, eui == 0);
+    let nwk = u16_at(b, 18);
+    let short = opt_by(byte_at(b, 17), nwk, nwk == 0);
     poll_with(clock, extended, short)
 }
 
@@ -134,7 +137,8 @@ pub fn decode_drop(b: &[u8]) -> Event
     ensures { result ≡ drop_of b.now }
 {
     let short = u16_at(b, 9);
-    match opt64_by(byte_at(b, 0), u64_at(b, 1)) {
+    let extended = u64_at(b, 1);
+    match opt_by(byte_at(b, 0), extended, extended == 0) {
         Some(eui) => Event::OnDrop(eui, short),
         None => Event::Malformed,
     }

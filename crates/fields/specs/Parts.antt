@@ -14,14 +14,17 @@ use Rattle.model.specs.declared.Lender.{Lender}
 
 -- ---- an optional number, by its flag or presence bit
 
+abbrev pub opt_by : {A : Type 0} → ℕ → A → Bool → Option (Option A)
+opt_by flag x blank = pick (eqb flag 0) (pick blank (Some None) None) (pick (eqb flag 1) (Some (Some x)) None)
+
 abbrev pub opt8_by : ℕ → ℕ → Option (Option ℕ)
-opt8_by flag x = pick (eqb flag 0) (pick (eqb x 0) (Some None) None) (pick (eqb flag 1) (Some (Some x)) None)
+opt8_by flag x = opt_by flag x (eqb x 0)
 
 abbrev pub opt16_by : ℕ → ℕ → Option (Option ℕ)
-opt16_by flag x = pick (eqb flag 0) (pick (eqb x 0) (Some None) None) (pick (eqb flag 1) (Some (Some x)) None)
+opt16_by flag x = opt_by flag x (eqb x 0)
 
 abbrev pub opt64_by : ℕ → ℕ → Option (Option ℕ)
-opt64_by flag x = pick (eqb flag 0) (pick (eqb x 0) (Some None) None) (pick (eqb flag 1) (Some (Some x)) None)
+opt64_by flag x = opt_by flag x (eqb x 0)
 
 -- ---- a priority, 0 to 5 in the Rust's order
 

@@ -1,57 +1,19 @@
 // The parts of a body that may be outside their form: an absent part must be zero, a flag 0 or 1, a tag one of its own.
 ghost use Rattle.std.specs.Prelude.{◌≡◌, ◌+◌, ◌≤◌, length, eqb, [], ◌∷◌};
 ghost use Rattle.fields.specs.Bytes.{number};
-ghost use Rattle.fields.specs.Parts.{opt8_by, opt16_by, opt64_by, priority_by, address_by, address_at, key_with, key_at, confirm_with, confirm_at, result_by, lender_by, all_zero, once_by, passive_by, fixed_by, schedule_by, schedule_at};
+ghost use Rattle.fields.specs.Parts.{opt_by, opt8_by, opt16_by, priority_by, address_by, address_at, key_with, key_at, confirm_with, confirm_at, result_by, lender_by, all_zero, schedule_by, schedule_at};
 
 use crate::numbers::{byte_at, u16_at, u32_at, u64_at};
 use model::Lender;
 use records::{AckKey, Address, Confirm, Priority, QuorumKey, Schedule, TxResult};
 
-// ---- optional numbers, by a flag
+// ---- optional numbers, by a flag; an absent one must be zero
 
-pub(crate) fn opt8_by(flag: u8, x: u8) -> Option<Option<u8>>
-    ensures { result ≡ opt8_by flag x }
+pub fn opt_by<T: Copy>(flag: u8, x: T, blank: bool) -> Option<Option<T>>
+    ensures { result ≡ opt_by flag x blank }
 {
     match flag {
-        0 => {
-            if x == 0 {
-                Some(None)
-            } else {
-                None
-            }
-        }
-        1 => Some(Some(x)),
-        _ => None,
-    }
-}
-
-pub fn opt16_by(flag: u8, x: u16) -> Option<Option<u16>>
-    ensures { result ≡ opt16_by flag x }
-{
-    match flag {
-        0 => {
-            if x == 0 {
-                Some(None)
-            } else {
-                None
-            }
-        }
-        1 => Some(Some(x)),
-        _ => None,
-    }
-}
-
-pub fn opt64_by(flag: u8, x: u64) -> Option<Option<u64>>
-    ensures { result ≡ opt64_by flag x }
-{
-    match flag {
-        0 => {
-            if x == 0 {
-                Some(None)
-            } else {
-                None
-            }
-        }
+        0 if blank => Some(None),
         1 => Some(Some(x)),
         _ => None,
     }
@@ -77,20 +39,8 @@ pub(crate) fn address_by(tag: u8, x: u64) -> Option<Address>
     ensures { result ≡ address_by tag x }
 {
     match tag {
-        0 => {
-            if x == 0 {
-                Some(Address::Absent)
-            } else {
-                None
-            }
-        }
-        1 => {
-            if x <= 65535 {
-                Some(Address::Short(x as u16))
-            } else {
-                None
-            }
-        }
+        0 if x == 0 => Some(Address::Absent),
+        1 if x <= 65535 => Some(Address::Short(x as u16)),
         2 => Some(Address::Extended(x)),
         _ => None,
     }
@@ -115,26 +65,26 @@ pub(crate) fn key_with(
 ) -> Option<AckKey>
     ensures { result ≡ key_with src destination cluster profile source counter }
 {
-    match destination {
-        Some(destination_endpoint) => match cluster {
-            Some(cluster_id) => match profile {
-                Some(profile_id) => match source {
-                    Some(source_endpoint) => Some(AckKey {
-                        src,
-                        destination_endpoint,
-                        cluster_id,
-                        profile_id,
-                        source_endpoint,
-                        counter,
-                    }),
-                    None => None,
-                },
-                None => None,
-            },
-            None => None,
-        },
-        None => None,
-    }
+    Some(AckKey {
+        src,
+        destination_endpoint: destination?,
+        cluster_id: cluster?,
+        profile_id: profile?,
+        source_endpoint: source?,
+        counter,
+    })
+}
+
+fn byte_by(flag: u8, x: u8) -> Option<Option<u8>>
+    ensures { result ≡ opt8_by flag x }
+{
+    opt_by(flag, x, x == 0)
+}
+
+fn pair_by(flag: u8, x: u16) -> Option<Option<u16>>
+    ensures { result ≡ opt16_by flag x }
+{
+    opt_by(flag, x, x == 0)
 }
 
 pub fn key_at(b: &[u8], at: usize) -> Option<AckKey>
@@ -146,12 +96,18 @@ pub fn key_at(b: &[u8], at: usize) -> Option<AckKey>
         return None;
     }
     let src = u16_at(b, at + 1);
-    let destination = opt8_by(bits % 2, byte_at(b, at + 3));
-    let cluster = opt16_by(bits / 2 % 2, u16_at(b, at + 4));
-    let profile = opt16_by(bits / 4 % 2, u16_at(b, at + 6));
-    let source = opt8_by(bits / 8 % 2, byte_at(b, at + 8));
-    let counter = byte_at(b, at + 9);
-    key_with(src, destination, cluster, profile, source, counter)
+    let destination = byte_by(bits % 2, byte_at(b, at + 3));
+    let cluster = pair_by(bits / 2 % 2, u16_at(b, at + 4));
+    let profile = pair_by(bits / 4 % 2, u16_at(b, at + 6));
+    let source = byte_by(bits / 8 % 2, byte_at(b, at + 8));
+    key_with(
+        src,
+        destination,
+        cluster,
+        profile,
+        source,
+        byte_at(b, at + 9),
+    )
 }
 
 // ---- what confirms a send
@@ -164,30 +120,15 @@ pub fn blank_at(b: &[u8], at: usize) -> bool
     let first = u64_at(b, at);
     let second = u32_at(b, at + 8);
     let third = u16_at(b, at + 12);
-    if first != 0 {
-        return false;
-    }
-    if second != 0 {
-        return false;
-    }
-    third == 0
+    (first, second, third) == (0, 0, 0)
 }
 
 pub(crate) fn confirm_with(tag: u8, blank: bool, key: Option<AckKey>, wait: u32) -> Option<Confirm>
     ensures { result ≡ confirm_with tag blank key wait }
 {
     match tag {
-        0 => {
-            if blank {
-                Some(Confirm::OnHandoff)
-            } else {
-                None
-            }
-        }
-        1 => match key {
-            Some(k) => Some(Confirm::ApsAck(k, wait)),
-            None => None,
-        },
+        0 if blank => Some(Confirm::OnHandoff),
+        1 => Some(Confirm::ApsAck(key?, wait)),
         _ => None,
     }
 }
@@ -209,13 +150,7 @@ pub fn result_by(tag: u8, code: u16) -> Option<TxResult>
     ensures { result ≡ result_by tag code }
 {
     match tag {
-        0 => {
-            if code == 0 {
-                Some(Ok(()))
-            } else {
-                None
-            }
-        }
+        0 if code == 0 => Some(Ok(())),
         1 => Some(Err(code)),
         _ => None,
     }
@@ -236,59 +171,7 @@ pub fn lender_by(flag: u8) -> Option<Lender>
 fn all_zero(src: u16, sequence: u8, interval: u32, copies: u8, next: u64) -> bool
     ensures { result ≡ all_zero (src ∷ sequence ∷ interval ∷ copies ∷ next ∷ []) }
 {
-    if src != 0 {
-        return false;
-    }
-    if sequence != 0 {
-        return false;
-    }
-    if interval != 0 {
-        return false;
-    }
-    if copies != 0 {
-        return false;
-    }
-    next == 0
-}
-
-fn once_by(blank: bool) -> Option<Schedule>
-    ensures { result ≡ once_by blank }
-{
-    if blank {
-        Some(Schedule::Once)
-    } else {
-        None
-    }
-}
-
-fn passive_by(key: QuorumKey, interval: u32, copies: u8, next: u64) -> Option<Schedule>
-    ensures { result ≡ passive_by key interval copies next }
-{
-    if interval == 0 {
-        Some(Schedule::PassiveAck {
-            key,
-            copies_remaining: copies,
-            next_attempt: next,
-        })
-    } else {
-        None
-    }
-}
-
-fn fixed_by(src: u16, sequence: u8, interval: u32, copies: u8, next: u64) -> Option<Schedule>
-    ensures { result ≡ fixed_by src sequence interval copies next }
-{
-    if src != 0 {
-        return None;
-    }
-    if sequence != 0 {
-        return None;
-    }
-    Some(Schedule::FixedInterval {
-        interval,
-        copies_remaining: copies,
-        next_attempt: next,
-    })
+    src == 0 && sequence == 0 && interval == 0 && copies == 0 && next == 0
 }
 
 pub(crate) fn schedule_by(
@@ -302,9 +185,17 @@ pub(crate) fn schedule_by(
     ensures { result ≡ schedule_by tag src sequence interval copies next }
 {
     match tag {
-        0 => once_by(all_zero(src, sequence, interval, copies, next)),
-        1 => passive_by(QuorumKey { src, sequence }, interval, copies, next),
-        2 => fixed_by(src, sequence, interval, copies, next),
+        0 if all_zero(src, sequence, interval, copies, next) => Some(Schedule::Once),
+        1 if interval == 0 => Some(Schedule::PassiveAck {
+            key: QuorumKey { src, sequence },
+            copies_remaining: copies,
+            next_attempt: next,
+        }),
+        2 if src == 0 && sequence == 0 => Some(Schedule::FixedInterval {
+            interval,
+            copies_remaining: copies,
+            next_attempt: next,
+        }),
         _ => None,
     }
 }

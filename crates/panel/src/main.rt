@@ -6,7 +6,8 @@ ghost use Rattle.std.specs.Prelude.{◌≡◌, ◌≤◌, IfOk};
 ghost use Rattle.model.specs.Sound.{Sound};
 
 use model::{Answer, Answered, Lender, NewUnicast, Sends, Transmit};
-use records::{Action, Address, Confirm, Priority, TxResult, Verdict};
+use records::{Action, Address, Confirm, Priority, TxResult, Verdict, numbers};
+use sends::asks;
 use std::io;
 use std::io::Print;
 
@@ -27,29 +28,17 @@ struct Gateway {
 
 // The green tick is lit by one thing only: the verdict that the update went well.
 fn lights(a: Action) -> bool {
-    match a {
-        Action::HandedOff(_, _) => false,
-        Action::Settled(_, v, _) => match v {
-            Verdict::Success => true,
-            Verdict::Failure(_) => false,
-            Verdict::Code(_) => false,
-        },
-    }
+    matches!(a, Action::Settled(_, Verdict::Success, _))
 }
 
 // Prints the first n actions told; answers whether the tick is lit after them.
-fn show_actions(rt: &impl Print, told: &[u64; 560], n: usize, lit: bool) -> io::Result<bool>
+fn show_actions(rt: &impl Print, told: &[u64; 560], n: usize, mut lit: bool) -> io::Result<bool>
     requires { n ≤ 112 }
 {
-    let mut lit = lit;
-    let mut i: usize = 0;
-    while i < n {
+    for i in 0..n {
         let a = actions::action_at(told, i);
         words::action(rt, a)?;
-        if lights(a) {
-            lit = true;
-        }
-        i = i + 1;
+        lit |= lights(a);
     }
     Ok(lit)
 }
@@ -59,14 +48,12 @@ fn heard(rt: &impl Print, x: Answered, told: &[u64; 560], lit: bool) -> io::Resu
     requires { x.told ≤ 112 }
     ensures { IfOk result (λ g. g.sends ≡ x.sends) }
 {
-    let s = x.sends;
-    let a = x.answer;
-    words::said(rt, a)?;
+    words::said(rt, x.answer)?;
     words::count(rt, x.told)?;
-    let now_lit = show_actions(rt, told, x.told, lit)?;
+    let lit = show_actions(rt, told, x.told, lit)?;
     Ok(Gateway {
-        sends: s,
-        lit: now_lit,
+        sends: x.sends,
+        lit,
     })
 }
 
@@ -86,16 +73,9 @@ fn enqueue(rt: &impl Print, g: Gateway, told: &mut [u64; 560], clock: u64) -> io
     requires { Sound g.sends }
     ensures { IfOk result (λ h. Sound h.sends) }
 {
-    let s = g.sends;
-    words::call(rt, clock, b"enqueue_unicast of an update for ")?;
+    print!(rt; "{clock} ms: enqueue_unicast of an update for ")?;
     words::address(rt, Address::Extended(PANEL))?;
-    let x = sends::enqueue_unicast(
-        s,
-        told,
-        records::numbers::default_settings(),
-        update(),
-        clock,
-    );
+    let x = sends::enqueue_unicast(g.sends, told, numbers::default_settings(), update(), clock);
     heard(rt, x, told, g.lit)
 }
 
@@ -110,10 +90,9 @@ fn poll(
     requires { Sound g.sends }
     ensures { IfOk result (λ h. Sound h.sends) }
 {
-    let s = g.sends;
-    words::call(rt, clock, b"poll by ")?;
+    print!(rt; "{clock} ms: poll by ")?;
     words::address(rt, Address::Extended(device))?;
-    let x = sends::poll(s, told, Some(device), None, clock);
+    let x = sends::poll(g.sends, told, Some(device), None, clock);
     heard(rt, x, told, g.lit)
 }
 
@@ -121,9 +100,8 @@ fn tick(rt: &impl Print, g: Gateway, told: &mut [u64; 560], clock: u64) -> io::R
     requires { Sound g.sends }
     ensures { IfOk result (λ h. Sound h.sends) }
 {
-    let s = g.sends;
-    words::call(rt, clock, b"tick")?;
-    let x = sends::tick(s, told, clock);
+    print!(rt; "{clock} ms: tick")?;
+    let x = sends::tick(g.sends, told, clock);
     heard(rt, x, told, g.lit)
 }
 
@@ -149,10 +127,9 @@ fn transmitted(
     requires { Sound g.sends }
     ensures { IfOk result (λ h. Sound h.sends) }
 {
-    let s = g.sends;
-    words::call(rt, clock, b"transmitted")?;
+    print!(rt; "{clock} ms: transmitted")?;
     words::report(rt, id, frame, report)?;
-    let x = sends::transmitted(s, told, from, id, frame, report, clock, 0);
+    let x = sends::transmitted(g.sends, told, from, id, frame, report, clock, 0);
     heard(rt, x, told, g.lit)
 }
 
@@ -168,16 +145,13 @@ fn serve_radio(
     requires { Sound g.sends }
     ensures { IfOk result (λ h. Sound h.sends) }
 {
-    let s = g.sends;
-    words::call(rt, clock, b"dequeue")?;
-    let x = sends::dequeue(s, told, clock);
-    let a = x.answer;
+    print!(rt; "{clock} ms: dequeue")?;
+    let x = sends::dequeue(g.sends, told, clock);
     let h = heard(rt, x, told, g.lit)?;
-    match a {
-        Answer::InFlight(id, frame, how) => {
-            transmitted(rt, h, told, lender(how), id, frame, report, later)
-        }
-        _ => Ok(h),
+    if let Answer::InFlight(id, frame, how) = x.answer {
+        transmitted(rt, h, told, lender(how), id, frame, report, later)
+    } else {
+        Ok(h)
     }
 }
 
@@ -185,14 +159,12 @@ fn serve_radio(
 fn show_state(rt: &impl Print, s: Sends, clock: u64) -> io::Result<()>
     requires { Sound s }
 {
-    words::call(rt, clock, b"has_unicast_awaiting_poll of ")?;
-    words::address(rt, Address::Extended(PANEL))?;
-    words::replied(
-        rt,
-        sends::asks::has_unicast_awaiting_poll(s, Address::Extended(PANEL)),
-    )?;
-    words::call(rt, clock, b"next_wake")?;
-    words::wake(rt, sends::asks::next_wake(s))
+    let panel = Address::Extended(PANEL);
+    print!(rt; "{clock} ms: has_unicast_awaiting_poll of ")?;
+    words::address(rt, panel)?;
+    words::replied(rt, asks::has_unicast_awaiting_poll(s, panel))?;
+    print!(rt; "{clock} ms: next_wake")?;
+    words::wake(rt, asks::next_wake(s))
 }
 
 // Both runs begin alike: the update waits while the panel sleeps, and is queued as the panel polls.
@@ -200,37 +172,33 @@ fn begin(rt: &impl Print, told: &mut [u64; 560]) -> io::Result<Gateway>
     ensures { IfOk result (λ h. Sound h.sends) }
 {
     let empty = Gateway {
-        sends: sends::asks::fresh(0),
+        sends: asks::fresh(0),
         lit: false,
     };
     let entered = enqueue(rt, empty, told, 0)?;
-    let s = entered.sends;
-    show_state(rt, s, 0)?;
+    show_state(rt, entered.sends, 0)?;
     let slept = serve_radio(rt, entered, told, Ok(()), 100, 104)?;
     poll(rt, slept, told, PANEL, 2000)
 }
 
 // The transmit fails and the panel does not poll again: the update waits, and no dequeue finds it, until its time is over.
 fn failing(rt: &impl Print, told: &mut [u64; 560]) -> io::Result<()> {
-    words::text(rt, b"Run 1: the radio fails.\n")?;
+    println!(rt; "Run 1: the radio fails.")?;
     let polled = begin(rt, told)?;
     let failed = serve_radio(rt, polled, told, Err(233), 2001, 2005)?;
-    let s = failed.sends;
-    show_state(rt, s, 2005)?;
+    show_state(rt, failed.sends, 2005)?;
     let waiting = serve_radio(rt, failed, told, Ok(()), 2010, 2014)?;
     let early = tick(rt, waiting, told, 7679)?;
     let expired = tick(rt, early, told, 7680)?;
-    let t = expired.sends;
-    show_state(rt, t, 7680)?;
+    show_state(rt, expired.sends, 7680)?;
     words::light(rt, expired.lit)
 }
 
 fn working(rt: &impl Print, told: &mut [u64; 560]) -> io::Result<()> {
-    words::text(rt, b"\nRun 2: the radio works.\n")?;
+    println!(rt; "\nRun 2: the radio works.")?;
     let polled = begin(rt, told)?;
     let sent = serve_radio(rt, polled, told, Ok(()), 2001, 2005)?;
-    let s = sent.sends;
-    show_state(rt, s, 2005)?;
+    show_state(rt, sent.sends, 2005)?;
     words::light(rt, sent.lit)
 }
 

@@ -1,80 +1,47 @@
 // What the calls answer and what the driver must do, in plain words on standard output. Each function, and those of main.rt that call
 // it, stops at the first write that fails and answers that error, and no other; what was written before it stands.
 use model::{Answer, Transmit};
-use records::{Action, Address, Entry, Refusal, SendFailure, TxResult, Verdict};
+use records::{Action, Address, Entry, Refusal, SendFailure, TxResult, Verdict, numbers};
 use std::io;
 use std::io::Print;
 
-pub(crate) fn text(rt: &impl Print, t: &[u8]) -> io::Result<()> {
-    rt.write_all(t)
-}
-
-fn number(rt: &impl Print, n: u64) -> io::Result<()> {
-    rt.print(n)
-}
-
-// The head of a line: the time and the call.
-pub(crate) fn call(rt: &impl Print, clock: u64, name: &[u8]) -> io::Result<()> {
-    number(rt, clock)?;
-    text(rt, b" ms: ")?;
-    text(rt, name)
-}
-
 // What the radio reports, as a part of the call.
 pub(crate) fn report(rt: &impl Print, id: u32, frame: u32, x: TxResult) -> io::Result<()> {
-    text(rt, b", id ")?;
-    number(rt, id as u64)?;
-    text(rt, b", frame ")?;
-    number(rt, frame as u64)?;
+    print!(rt; ", id {id}, frame {frame}, ")?;
     match x {
-        Ok(()) => text(rt, b", sent"),
-        Err(code) => {
-            text(rt, b", failed with code ")?;
-            number(rt, code as u64)
-        }
+        Ok(()) => print!(rt; "sent"),
+        Err(code) => print!(rt; "failed with code {code}"),
     }
 }
 
 fn denied(rt: &impl Print, r: Refusal) -> io::Result<()> {
-    text(rt, b"denied with number ")?;
-    number(rt, records::numbers::refusal_number(r) as u64)
+    print!(rt; "denied with number {}", numbers::refusal_number(r))
 }
 
 fn flight(rt: &impl Print, id: u32, frame: u32, how: Transmit) -> io::Result<()> {
-    text(rt, b"in flight: id ")?;
-    number(rt, id as u64)?;
-    text(rt, b", frame ")?;
-    number(rt, frame as u64)?;
+    print!(rt; "in flight: id {id}, frame {frame}, ")?;
     match how {
         Transmit::Unicasting(hop, pending) => {
-            text(rt, b", next hop 0x")?;
-            print!(rt; "{hop:04x}")?;
-            text(rt, b", another frame pending: ")?;
-            yes_or_no(rt, pending)
+            let more = yes_or_no(pending);
+            print!(rt; "next hop 0x{hop:04x}, another frame pending: {more}")
         }
-        Transmit::Broadcasting => text(rt, b", to all"),
+        Transmit::Broadcasting => print!(rt; "to all"),
     }
 }
 
-fn yes_or_no(rt: &impl Print, b: bool) -> io::Result<()> {
-    if b {
-        return text(rt, b"yes");
-    }
-    text(rt, b"no")
+fn yes_or_no(b: bool) -> &'static str {
+    if b { "yes" } else { "no" }
 }
 
 // The answer of a call.
 pub(crate) fn said(rt: &impl Print, a: Answer) -> io::Result<()> {
-    text(rt, b" -> ")?;
+    print!(rt; " -> ")?;
     match a {
         Answer::Denied(r) => denied(rt, r),
-        Answer::Accepted => text(rt, b"accepted"),
-        Answer::Issued(id) => {
-            text(rt, b"id ")?;
-            number(rt, id as u64)
-        }
-        Answer::Replied(b) => yes_or_no(rt, b),
-        Answer::NothingQueued => text(rt, b"nothing queued"),
+        Answer::Accepted => print!(rt; "accepted"),
+        Answer::Issued(id) => print!(rt; "id {id}"),
+        Answer::Replied(b) => print!(rt; "{}", yes_or_no(b)),
+        Answer::NothingQueued => print!(rt; "nothing queued"),
         Answer::InFlight(id, frame, how) => flight(rt, id, frame, how),
     }
 }
@@ -82,71 +49,54 @@ pub(crate) fn said(rt: &impl Print, a: Answer) -> io::Result<()> {
 // How many actions follow, to end the line.
 pub(crate) fn count(rt: &impl Print, n: usize) -> io::Result<()> {
     if n == 0 {
-        return text(rt, b"; nothing to tell\n");
+        println!(rt; "; nothing to tell")
+    } else {
+        println!(rt; "; actions: {n}")
     }
-    text(rt, b"; actions: ")?;
-    number(rt, n as u64)?;
-    text(rt, b"\n")
 }
 
 pub(crate) fn address(rt: &impl Print, a: Address) -> io::Result<()> {
     match a {
-        Address::Absent => text(rt, b"no address"),
-        Address::Short(x) => {
-            text(rt, b"0x")?;
-            print!(rt; "{x:04x}")
-        }
-        Address::Extended(x) => {
-            text(rt, b"0x")?;
-            print!(rt; "{x:016x}")
-        }
+        Address::Absent => print!(rt; "no address"),
+        Address::Short(x) => print!(rt; "0x{x:04x}"),
+        Address::Extended(x) => print!(rt; "0x{x:016x}"),
     }
 }
 
 fn failure(rt: &impl Print, f: SendFailure) -> io::Result<()> {
     match f {
-        SendFailure::HandoffTimeout => text(rt, b"failed, the mesh did not take it in time"),
-        SendFailure::ApsAckTimeout => text(rt, b"failed, no end-to-end ack came in time"),
+        SendFailure::HandoffTimeout => print!(rt; "failed, the mesh did not take it in time"),
+        SendFailure::ApsAckTimeout => print!(rt; "failed, no end-to-end ack came in time"),
         SendFailure::IndirectExpired(a) => {
-            text(rt, b"failed, expired before the device fetched it: ")?;
+            print!(rt; "failed, expired before the device fetched it: ")?;
             address(rt, a)
         }
-        SendFailure::RouteDiscoveryTimeout => text(rt, b"failed, no route was found in time"),
-        SendFailure::BroadcastQuorumNotReached => text(rt, b"failed, too few heard the broadcast"),
-        SendFailure::Cancelled => text(rt, b"failed, cancelled"),
+        SendFailure::RouteDiscoveryTimeout => print!(rt; "failed, no route was found in time"),
+        SendFailure::BroadcastQuorumNotReached => print!(rt; "failed, too few heard the broadcast"),
+        SendFailure::Cancelled => print!(rt; "failed, cancelled"),
     }
 }
 
 fn verdict(rt: &impl Print, v: Verdict) -> io::Result<()> {
     match v {
-        Verdict::Success => text(rt, b"success"),
+        Verdict::Success => print!(rt; "success"),
         Verdict::Failure(f) => failure(rt, f),
-        Verdict::Code(code) => {
-            text(rt, b"failed with code ")?;
-            number(rt, code as u64)
-        }
+        Verdict::Code(code) => print!(rt; "failed with code {code}"),
     }
 }
 
 fn last_hop(rt: &impl Print, hop: Option<u16>) -> io::Result<()> {
     match hop {
-        None => text(rt, b"\n"),
-        Some(x) => {
-            text(rt, b", attempts ran out at next hop 0x")?;
-            print!(rt; "{x:04x}")?;
-            text(rt, b"\n")
-        }
+        None => println!(rt; ""),
+        Some(x) => println!(rt; ", attempts ran out at next hop 0x{x:04x}"),
     }
 }
 
 fn settled(rt: &impl Print, e: Entry, v: Verdict, hop: Option<u16>) -> io::Result<()> {
-    text(rt, b"    settled: id ")?;
-    number(rt, e.id as u64)?;
-    text(rt, b", waiter ")?;
-    number(rt, e.waiter as u64)?;
-    text(rt, b", frame ")?;
-    number(rt, e.frame as u64)?;
-    text(rt, b": ")?;
+    print!(rt;
+        "    settled: id {}, waiter {}, frame {}: ",
+        e.id, e.waiter, e.frame
+    )?;
     verdict(rt, v)?;
     last_hop(rt, hop)
 }
@@ -155,11 +105,7 @@ fn settled(rt: &impl Print, e: Entry, v: Verdict, hop: Option<u16>) -> io::Resul
 pub(crate) fn action(rt: &impl Print, a: Action) -> io::Result<()> {
     match a {
         Action::HandedOff(id, waiter) => {
-            text(rt, b"    handed off: id ")?;
-            number(rt, id as u64)?;
-            text(rt, b", waiter ")?;
-            number(rt, waiter as u64)?;
-            text(rt, b": the mesh took it\n")
+            println!(rt; "    handed off: id {id}, waiter {waiter}: the mesh took it")
         }
         Action::Settled(e, v, hop) => settled(rt, e, v, hop),
     }
@@ -167,26 +113,21 @@ pub(crate) fn action(rt: &impl Print, a: Action) -> io::Result<()> {
 
 // The answer of a question: yes or no.
 pub(crate) fn replied(rt: &impl Print, b: bool) -> io::Result<()> {
-    text(rt, b" -> ")?;
-    yes_or_no(rt, b)?;
-    text(rt, b"\n")
+    println!(rt; " -> {}", yes_or_no(b))
 }
 
 // The answer of a question: when the driver's timer must call the next tick, if ever.
 pub(crate) fn wake(rt: &impl Print, t: Option<u64>) -> io::Result<()> {
     match t {
-        None => text(rt, b" -> never\n"),
-        Some(t) => {
-            text(rt, b" -> at ")?;
-            number(rt, t)?;
-            text(rt, b" ms\n")
-        }
+        None => println!(rt; " -> never"),
+        Some(t) => println!(rt; " -> at {t} ms"),
     }
 }
 
 pub(crate) fn light(rt: &impl Print, lit: bool) -> io::Result<()> {
     if lit {
-        return text(rt, b"The green tick lights.\n");
+        println!(rt; "The green tick lights.")
+    } else {
+        println!(rt; "The green tick does not light.")
     }
-    text(rt, b"The green tick does not light.\n")
 }

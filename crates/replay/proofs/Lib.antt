@@ -1,4 +1,2 @@
 -- The laws of a replay.
-pub mod Claimed
-pub mod Counted
 pub mod Judged

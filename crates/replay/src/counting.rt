@@ -2,11 +2,19 @@
 ghost use Rattle.std.specs.Prelude.{◌≡◌, ◌<◌};
 ghost use Rattle.replay.specs.Counting.{Few, blank, past, counted_of, begun_of};
 
+use std::fmt;
+
 // A case by its file, counted from 1, and its place there, from 0.
 #[derive(Clone, Copy)]
 pub(crate) struct Spot {
     pub file: usize,
     pub place: usize,
+}
+
+impl fmt::Display for Spot {
+    fn fmt<W: fmt::Write>(&self, f: &mut fmt::Formatter<W>) -> fmt::Result {
+        write!(f, "file {}, case {}", self.file, self.place)
+    }
 }
 
 // How many cases are left in this file, and which is the next; the first that differed; how many there were, and how many agreed.
@@ -37,16 +45,11 @@ pub(crate) fn begun(t: Tally, n: usize) -> Tally
     requires { Few 1048576 t }
     ensures { result ≡ begun_of t n }
 {
-    let file = t.here.file + 1;
-    let here = Spot { file, place: 0 };
-    let first = t.first;
-    Tally {
-        left: n,
-        here,
-        first,
-        cases: t.cases,
-        agreed: t.agreed,
-    }
+    let here = Spot {
+        file: t.here.file + 1,
+        place: 0,
+    };
+    Tally { left: n, here, ..t }
 }
 
 fn passed(t: Tally, agreed: usize, first: Spot) -> Tally
@@ -54,12 +57,12 @@ fn passed(t: Tally, agreed: usize, first: Spot) -> Tally
     requires left_nonzero { 0 < t.left }
     ensures { result ≡ past t agreed first }
 {
-    let file = t.here.file;
-    let place = t.here.place + 1;
-    let here = Spot { file, place };
     Tally {
         left: t.left - 1,
-        here,
+        here: Spot {
+            place: t.here.place + 1,
+            ..t.here
+        },
         first,
         cases: t.cases + 1,
         agreed,
@@ -72,13 +75,11 @@ pub(crate) fn counted(t: Tally, ok: bool) -> Tally
     requires left_nonzero { 0 < t.left }
     ensures { result ≡ counted_of t ok }
 {
-    let here = t.here;
-    let first = t.first;
     if ok {
-        return passed(t, t.agreed + 1, first);
+        passed(t, t.agreed + 1, t.first)
+    } else if t.agreed < t.cases {
+        passed(t, t.agreed, t.first)
+    } else {
+        passed(t, t.agreed, t.here)
     }
-    if t.agreed < t.cases {
-        return passed(t, t.agreed, first);
-    }
-    passed(t, t.agreed, here)
 }

@@ -7,27 +7,14 @@ ghost use Rattle.replay.specs.Judging.{agrees_of, same};
 fn expected(answers: &[u8], i: usize) -> u8
     ensures { result ≡ get_or answers.now i 165 }
 {
-    if i < answers.len() {
-        return answers[i];
-    }
-    165
+    if i < answers.len() { answers[i] } else { 165 }
 }
 
 // Does an output hold the answers and past them the pattern, and was their length returned?
 fn agrees(out: &[u8], n: usize, answers: &[u8]) -> bool
     ensures { result ≡ agrees_of out.now n answers.now }
 {
-    if n != answers.len() {
-        return false;
-    }
-    let mut i: usize = 0;
-    while i < out.len() {
-        if out[i] != expected(answers, i) {
-            return false;
-        }
-        i = i + 1;
-    }
-    true
+    n == answers.len() && (0..out.len()).all(|i| out[i] == expected(answers, i))
 }
 
 fn pattern() -> [u8; 4096]

@@ -12,49 +12,24 @@ mod counting;
 mod judging;
 mod reading;
 
-fn text(rt: &impl Print, t: &[u8]) -> io::Result<()> {
-    rt.write_all(t)
-}
-
-fn number(rt: &impl Print, n: usize) -> io::Result<()> {
-    rt.print(n as u64)
-}
-
-fn spot(rt: &impl Print, file: usize, place: usize) -> io::Result<()> {
-    text(rt, b"file ")?;
-    number(rt, file)?;
-    text(rt, b", case ")?;
-    number(rt, place)?;
-    text(rt, b"\n")
-}
-
 // What was counted.
 fn tell(rt: &impl Print, t: Tally) -> io::Result<()> {
-    number(rt, t.cases)?;
-    text(rt, b" cases, ")?;
-    number(rt, t.agreed)?;
-    text(rt, b" agreed\n")?;
+    println!(rt; "{} cases, {} agreed", t.cases, t.agreed)?;
     if t.agreed < t.cases {
-        let first = t.first;
-        text(rt, b"the first that differs: ")?;
-        spot(rt, first.file, first.place)?;
+        println!(rt; "the first that differs: {}", t.first)?;
     }
     Ok(())
 }
 
 // Where the input could not be read on: at a case, or at the head of a file.
 fn damage(rt: &impl Print, t: Tally) -> io::Result<()> {
-    let here = t.here;
-    text(rt, b"damaged: ")?;
     if 0 < t.left {
-        return spot(rt, here.file, here.place);
+        println!(rt; "damaged: {}", t.here)
+    } else if t.here.file == 0 {
+        println!(rt; "damaged: no head at the start")
+    } else {
+        println!(rt; "damaged: no head after file {}", t.here.file)
     }
-    if here.file == 0 {
-        return text(rt, b"no head at the start\n");
-    }
-    text(rt, b"no head after file ")?;
-    number(rt, here.file)?;
-    text(rt, b"\n")
 }
 
 fn main(rt: HostRuntime) -> io::Result<()> {

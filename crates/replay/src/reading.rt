@@ -3,7 +3,7 @@ ghost use Rattle.std.specs.Prelude.{◌≡◌, ◌≤◌, ◌<◌, length, IfOk}
 ghost use Rattle.replay.specs.Counting.{Few};
 ghost use Rattle.replay.specs.Reading.{FewOn};
 
-use crate::cases::{Case, Head};
+use crate::cases::Case;
 use crate::counting::Tally;
 use crate::{cases, counting, judging};
 use input::read_full;
@@ -23,12 +23,6 @@ pub(crate) enum Outcome {
     Broken(Tally),
 }
 
-#[derive(Clone, Copy)]
-enum Judged {
-    Agrees(bool),
-    Unread,
-}
-
 // Room for the longest trace.
 fn space() -> [u8; 65537]
     ensures { 65537 ≡ length result }
@@ -36,19 +30,21 @@ fn space() -> [u8; 65537]
     [0; 65537]
 }
 
-// A trace and its answers.
-fn judge<R: Read>(from: &mut R, capacity: usize, long: usize, answers: usize) -> io::Result<Judged>
-    requires { (capacity ≤ 4096) × ((long ≤ 65537) × (answers ≤ 4096)) }
+// A trace and its answers: whether they agree, or nothing where the input ends before they do.
+fn judge<R: Read>(from: &mut R, case: Case) -> io::Result<Option<bool>>
+    requires { (case.capacity ≤ 4096) × ((case.long ≤ 65537) × (case.answers ≤ 4096)) }
 {
     let mut given = space();
-    if read_full(from, &mut given[..long])? < long {
-        return Ok(Judged::Unread);
+    let trace = &mut given[..case.long];
+    if read_full(from, trace)? < case.long {
+        return Ok(None);
     }
-    let mut stored = [0u8; 4096];
-    if read_full(from, &mut stored[..answers])? < answers {
-        return Ok(Judged::Unread);
+    let mut stored = [0; 4096];
+    let answers = &mut stored[..case.answers];
+    if read_full(from, answers)? < case.answers {
+        return Ok(None);
     }
-    Ok(Judged::Agrees(judging::replays(&given[..long], capacity, &stored[..answers])))
+    Ok(Some(judging::replays(trace, case.capacity, answers)))
 }
 
 fn next_case<R: Read>(from: &mut R, t: Tally, k: usize) -> io::Result<Next>
@@ -60,17 +56,13 @@ fn next_case<R: Read>(from: &mut R, t: Tally, k: usize) -> io::Result<Next>
     if read_full(from, &mut b)? < 12 {
         return Ok(Next::Damaged);
     }
-    match cases::case_in(&b) {
-        Case::NoCase => Ok(Next::Damaged),
-        Case::Claims {
-            capacity,
-            long,
-            answers,
-        } => match judge(from, capacity, long, answers)? {
-            Judged::Agrees(ok) => Ok(Next::On(counting::counted(t, ok))),
-            Judged::Unread => Ok(Next::Damaged),
-        },
-    }
+    let Some(case) = cases::case_in(&b) else {
+        return Ok(Next::Damaged);
+    };
+    let Some(ok) = judge(from, case)? else {
+        return Ok(Next::Damaged);
+    };
+    Ok(Next::On(counting::counted(t, ok)))
 }
 
 // The input may end before the head of a file, and nowhere else.
@@ -87,10 +79,10 @@ fn next_head<R: Read>(from: &mut R, t: Tally, k: usize) -> io::Result<Next>
     if n < 12 {
         return Ok(Next::Damaged);
     }
-    match cases::head_in(&b) {
-        Head::Follow(n) => Ok(Next::On(counting::begun(t, n))),
-        Head::NoHead => Ok(Next::Damaged),
-    }
+    let Some(follow) = cases::head_in(&b) else {
+        return Ok(Next::Damaged);
+    };
+    Ok(Next::On(counting::begun(t, follow)))
 }
 
 fn next_of<R: Read>(from: &mut R, t: Tally, k: usize) -> io::Result<Next>
@@ -99,22 +91,21 @@ fn next_of<R: Read>(from: &mut R, t: Tally, k: usize) -> io::Result<Next>
     ensures { IfOk result (FewOn k) }
 {
     if 0 < t.left {
-        return next_case(from, t, k);
+        next_case(from, t, k)
+    } else {
+        next_head(from, t, k)
     }
-    next_head(from, t, k)
 }
 
 // All of it. What comes after a million heads and cases is not read: an input need not end, and the program has to.
 pub(crate) fn walk<R: Read>(from: &mut R) -> io::Result<Outcome> {
     let mut t = counting::fresh();
-    let mut k: usize = 0;
-    while k < 1048576 {
+    for k in 0..1048576 {
         match next_of(from, t, k)? {
             Next::On(u) => t = u,
             Next::Ended => return Ok(Outcome::Read(t)),
             Next::Damaged => return Ok(Outcome::Broken(t)),
         }
-        k = k + 1;
     }
     Ok(Outcome::Broken(t))
 }

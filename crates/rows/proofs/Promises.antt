@@ -193,6 +193,12 @@ unfolding rows_of
 length-rows_of t ws = length-rows t.layout.width t.layout.record_of t.room ws
 
 -- what find answers says what was found
+pub here-some : (o : Option ℕ) (i : ℕ) → Some i ≡ o → o ≡ Some i
+here-some o i e = sym e
+
+pub nowhere-none : (o : Option ℕ) → None ≡ o → o ≡ None
+nowhere-none o e = sym e
+
 module _ {A : Type 0} {t : Table A} {ws : List ℕ} {n : ℕ} (h : Held t ws n) where
   pub held-length : length (live t ws n) ≡ n
   held-length = length-take-le n (rows_of t ws) (omega (arith, length-rows_of t ws, h.within))

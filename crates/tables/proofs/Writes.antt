@@ -10,13 +10,13 @@ use borrow.Rule.Slice.PartMut.{put_mid}
 use Rattle.rows.specs.Rows.{flat}
 use Rattle.rows.specs.Tables.{Table, rows_of, words_for, Holds, Put}
 use Rattle.rows.proofs.Held.{Lawful, row_of, holds-fresh}
-use Rattle.rows.proofs.Sets.{sets-front}
 
 -- every word of a slice written
 pub filled : (l vs : List ℕ) → length l ≡ length vs → sets l 0 vs ≡ vs
 filled l vs h =
-    let d : drop (length vs) l ≡ [] = drop_of_length-le l (omega arith) in
-    sets-front l vs (omega arith) ∙ ap (λ (r : List ℕ). vs ++ r) d ∙ append-nil vs
+    let b : 0 + length vs ≤ length l = omega arith in
+    let d : drop (0 + length vs) l ≡ [] = drop_of_length-le l (omega arith) in
+    sets-eq vs l 0 b ∙ ap (λ (r : List ℕ). vs ++ r) d ∙ append-nil vs
 
 -- a part of a slice, from a on, written
 written : (a k : ℕ) (xs ys zs : List ℕ) → ys ≡ zs → length zs ≡ k → a + k ≤ length xs → put_mid a (a + k - a) xs ys ≡ sets xs a zs

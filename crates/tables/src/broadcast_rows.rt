@@ -6,7 +6,7 @@ ghost use Rattle.tables.specs.Layouts.{BroadcastTagged, broadcast_head, broadcas
 ghost use Rattle.tables.specs.Laws.{broadcast_lawful, broadcast_width};
 
 use crate::Record;
-use records::{Broadcast, CopyState, Priority, Schedule};
+use records::{Broadcast, CopyState, Priority, Schedule, priorities};
 
 // What a scan reads of a record: all but its handles, its handoff and its last error.
 #[derive(Clone, Copy)]
@@ -51,9 +51,9 @@ impl Record for Broadcast {
     }
 
     fn write(self, row: &mut [u64]) {
-        row[0] = self.id as u64;
-        row[1] = self.frame as u64;
-        row[2] = self.waiter as u64;
+        row[0] = u64::from(self.id);
+        row[1] = u64::from(self.frame);
+        row[2] = u64::from(self.waiter);
         row[3] = self.deadline;
         row[4] = codes::schedule_next(self.schedule);
         row[5] = codes::schedule_what(self.schedule);
@@ -74,15 +74,12 @@ pub fn head(w: &[u64; 112], i: usize) -> BroadcastHead
 {
     let k = i * 7;
     let tags = w[k + 6];
-    let p = codes::priority_of(tags % 8);
-    let s = codes::schedule_of(tags / 128 % 4, tags / 512 % 256, w[k + 5], w[k + 4]);
-    let c = codes::copy_of(tags / 8 % 4);
     BroadcastHead {
         id: (w[k] % 4294967296) as u32,
         deadline: w[k + 3],
-        priority: p,
-        schedule: s,
-        copy: c,
+        priority: codes::priority_of(tags % 8),
+        schedule: codes::schedule_of(tags / 128 % 4, tags / 512 % 256, w[k + 5], w[k + 4]),
+        copy: codes::copy_of(tags / 8 % 4),
         quorum_heard: tags / 64 % 2 == 1,
     }
 }
@@ -116,16 +113,12 @@ pub fn deadline(w: &[u64; 112], i: usize) -> u64
 fn tags_of(b: Broadcast) -> u64
     ensures { BroadcastTagged b result }
 {
-    let p = b.priority;
-    let c = b.copy;
-    let s = b.schedule;
-    let e = b.last_error;
-    let rank = records::priorities::rank(p) as u64;
-    let copy = codes::copy_tag(c);
+    let rank = u64::from(priorities::rank(b.priority));
+    let copy = codes::copy_tag(b.copy);
     let handed = codes::flag_word(b.handed_off);
     let heard = codes::flag_word(b.quorum_heard);
-    let kind = codes::schedule_tag(s);
-    let copies = codes::schedule_copies(s);
-    let last = codes::opt_word(e);
+    let kind = codes::schedule_tag(b.schedule);
+    let copies = codes::schedule_copies(b.schedule);
+    let last = codes::opt_word(b.last_error);
     rank + 8 * (copy + 4 * (handed + 2 * (heard + 2 * (kind + 4 * (copies + 256 * last)))))
 }

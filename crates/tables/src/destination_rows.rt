@@ -18,7 +18,7 @@ impl Record for Destination {
     const ROOM: usize = 16;
 
     fn key(&self) -> u32 {
-        self.address as u32
+        u32::from(self.address)
     }
 
     fn read(row: &[u64]) -> Destination {
@@ -29,8 +29,8 @@ impl Record for Destination {
     }
 
     fn write(self, row: &mut [u64]) {
-        row[0] = self.address as u64;
-        row[1] = self.retries as u64;
+        row[0] = u64::from(self.address);
+        row[1] = u64::from(self.retries);
     }
 
     ghost lawful = { destination_lawful };

@@ -97,7 +97,7 @@ pub fn find<R: Record>(w: &[u64], n: usize, key: u32) -> Option<usize>
     requires { Held R.table w.now n }
     ensures { result ≡ find_by R.table.key key (live R.table w.now n) }
 {
-    rows::seek(w, R::WIDTH, n, key as u64)
+    rows::seek(w, R::WIDTH, n, u64::from(key))
 }
 
 // The record enters under its key, in the place of the one that has it; with no free place it is refused.
@@ -105,7 +105,7 @@ pub fn insert<R: Record>(w: &mut [u64], n: usize, u: R) -> Option<usize>
     requires { Held R.table w.old n }
     ensures { Entered R.table w.old n u w.new result }
 {
-    match rows::enter(w, R::WIDTH, R::ROOM, n, u.key() as u64) {
+    match rows::enter(w, R::WIDTH, R::ROOM, n, u64::from(u.key())) {
         Slot::Shut => None,
         Slot::Over(i) => {
             put(w, i, u);
@@ -123,7 +123,7 @@ pub fn remove<R: Record>(w: &mut [u64], n: usize, key: u32) -> usize
     requires { Held R.table w.old n }
     ensures { Holds R.table w.new result (remove_by R.table.key key (live R.table w.old n)) }
 {
-    rows::leave(w, R::WIDTH, n, key as u64)
+    rows::leave(w, R::WIDTH, n, u64::from(key))
 }
 
 // The record at a place is taken out.

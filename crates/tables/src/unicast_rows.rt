@@ -6,7 +6,7 @@ ghost use Rattle.tables.specs.Layouts.{UnicastTagged, unicast_head, unicast_tabl
 ghost use Rattle.tables.specs.Laws.{unicast_lawful, unicast_width};
 
 use crate::Record;
-use records::{Address, Confirm, Priority, Stage, Unicast};
+use records::{Address, Confirm, Priority, Stage, Unicast, priorities};
 
 // What a scan reads of a record: all but its handles, its next hop and what confirms it.
 #[derive(Clone, Copy)]
@@ -53,9 +53,9 @@ impl Record for Unicast {
 
     fn write(self, row: &mut [u64]) {
         let two = codes::confirm_words(self.confirm);
-        row[0] = self.id as u64;
-        row[1] = self.frame as u64;
-        row[2] = self.waiter as u64;
+        row[0] = u64::from(self.id);
+        row[1] = u64::from(self.frame);
+        row[2] = u64::from(self.waiter);
         row[3] = self.deadline;
         row[4] = codes::stage_time(self.stage);
         row[5] = codes::address_word(self.poll_address);
@@ -79,17 +79,13 @@ pub fn head(w: &[u64; 320], i: usize) -> UnicastHead
 {
     let k = i * 10;
     let tags = w[k + 6];
-    let p = codes::priority_of(tags / 32 % 8);
-    let a = codes::address_of(tags / 8 % 4, w[k + 5]);
-    let s = codes::stage_of(tags % 8, w[k + 4]);
-    let o = codes::opt_of(w[k + 7]);
     UnicastHead {
         id: (w[k] % 4294967296) as u32,
         deadline: w[k + 3],
-        priority: p,
-        poll_address: a,
-        stage: s,
-        copy_of: o,
+        priority: codes::priority_of(tags / 32 % 8),
+        poll_address: codes::address_of(tags / 8 % 4, w[k + 5]),
+        stage: codes::stage_of(tags % 8, w[k + 4]),
+        copy_of: codes::opt_of(w[k + 7]),
     }
 }
 
@@ -131,11 +127,11 @@ pub fn address(w: &[u64; 320], i: usize) -> Address
 fn tags_of(u: Unicast) -> u64
     ensures { UnicastTagged u result }
 {
-    let s = u.stage;
-    let a = u.poll_address;
-    let p = u.priority;
-    let rank = records::priorities::rank(p) as u64;
+    let stage = codes::stage_tag(u.stage);
+    let address = codes::address_tag(u.poll_address);
+    // `as`, since the check finds alone then that the sum below fits; after `u64::from` it does not.
+    let rank = priorities::rank(u.priority) as u64;
     let attempts = u.attempts_remaining as u64;
     let hop = u.next_hop as u64;
-    codes::stage_tag(s) + 8 * (codes::address_tag(a) + 4 * (rank + 8 * (attempts + 256 * hop)))
+    stage + 8 * (address + 4 * (rank + 8 * (attempts + 256 * hop)))
 }

@@ -6,7 +6,7 @@ ghost use Rattle.tables.specs.Layouts.{unrouted_head, unrouted_table};
 ghost use Rattle.tables.specs.Laws.{unrouted_lawful, unrouted_width};
 
 use crate::Record;
-use records::Unrouted;
+use records::{Unrouted, priorities};
 
 // What a scan reads of a record.
 #[derive(Clone, Copy)]
@@ -46,12 +46,12 @@ impl Record for Unrouted {
 
     fn write(self, row: &mut [u64]) {
         let two = codes::confirm_words(self.confirm);
-        let rank = records::priorities::rank(self.priority) as u64;
-        row[0] = self.id as u64;
-        row[1] = self.frame as u64;
-        row[2] = self.waiter as u64;
+        let rank = u64::from(priorities::rank(self.priority));
+        row[0] = u64::from(self.id);
+        row[1] = u64::from(self.frame);
+        row[2] = u64::from(self.waiter);
         row[3] = self.deadline;
-        row[4] = rank + 8 * (self.destination as u64);
+        row[4] = rank + 8 * u64::from(self.destination);
         row[5] = two.first;
         row[6] = two.second;
     }

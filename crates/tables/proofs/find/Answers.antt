@@ -10,4 +10,4 @@ seek-requires g c =
 pub returns : goal.returns
 returns g c =
     let m = g.met.R.Record in
-    sought m.lawful c.requires _ _ (rw (c.WIDTH.ensures, ← m.width_is) at c.seek.ensures)
+    sought m.lawful c.requires _ _ (rw (c.WIDTH.ensures, ← m.width_is, c.from.ensures) at c.seek.ensures)

@@ -15,7 +15,7 @@ enter-requires-clause-n_le_room g c =
 pub put-requires-clause-there : goal.put-requires-clause-there
 put-requires-clause-there g c =
     let m = g.met.R.Record in
-    let s = rw (c.WIDTH.ensures, c.ROOM.ensures, c.key.ensures, ← m.width_is, ← m.room_is) at c.enter.ensures in
+    let s = rw (c.WIDTH.ensures, c.ROOM.ensures, c.from.ensures, c.key.ensures, ← m.width_is, ← m.room_is) at c.enter.ensures in
     rw (← m.room_is) (over-lt m.lawful c.requires c.args.u s _ c.in-Over.is)
 
 pub put-requires-clause-long : goal.put-requires-clause-long
@@ -26,7 +26,7 @@ put-requires-clause-long g c =
 pub put-requires-in-New-clause-there : goal.put-requires-in-New-clause-there
 put-requires-in-New-clause-there g c =
     let m = g.met.R.Record in
-    let s = rw (c.WIDTH.ensures, c.ROOM.ensures, c.key.ensures, ← m.width_is, ← m.room_is) at c.enter.ensures in
+    let s = rw (c.WIDTH.ensures, c.ROOM.ensures, c.from.ensures, c.key.ensures, ← m.width_is, ← m.room_is) at c.enter.ensures in
     rw (← m.room_is) (new-lt m.lawful c.requires c.args.u s _ c.in-New.is)
 
 pub put-requires-in-New-clause-long : goal.put-requires-in-New-clause-long
@@ -37,17 +37,17 @@ put-requires-in-New-clause-long g c =
 pub returns-in-Shut : goal.returns-in-Shut
 returns-in-Shut g c =
     let m = g.met.R.Record in
-    let s = rw (c.WIDTH.ensures, c.ROOM.ensures, c.key.ensures, ← m.width_is, ← m.room_is) at c.enter.ensures in
+    let s = rw (c.WIDTH.ensures, c.ROOM.ensures, c.from.ensures, c.key.ensures, ← m.width_is, ← m.room_is) at c.enter.ensures in
     shut-entered m.lawful c.requires c.args.u s c.in-Shut.is
 
 pub returns-in-Over : goal.returns-in-Over
 returns-in-Over g c =
     let m = g.met.R.Record in
-    let s = rw (c.WIDTH.ensures, c.ROOM.ensures, c.key.ensures, ← m.width_is, ← m.room_is) at c.enter.ensures in
+    let s = rw (c.WIDTH.ensures, c.ROOM.ensures, c.from.ensures, c.key.ensures, ← m.width_is, ← m.room_is) at c.enter.ensures in
     over-entered m.lawful c.requires c.args.u s _ c.in-Over.is c.put.ensures
 
 pub returns-in-New : goal.returns-in-New
 returns-in-New g c =
     let m = g.met.R.Record in
-    let s = rw (c.WIDTH.ensures, c.ROOM.ensures, c.key.ensures, ← m.width_is, ← m.room_is) at c.enter.ensures in
+    let s = rw (c.WIDTH.ensures, c.ROOM.ensures, c.from.ensures, c.key.ensures, ← m.width_is, ← m.room_is) at c.enter.ensures in
     new-entered m.lawful c.requires c.args.u s _ c.in-New.is c.put-in-New.ensures

@@ -10,4 +10,4 @@ leave-requires g c =
 pub returns : goal.returns
 returns g c =
     let m = g.met.R.Record in
-    left m.lawful c.requires _ (rw (c.WIDTH.ensures, ← m.width_is) at c.leave.ensures)
+    left m.lawful c.requires _ (rw (c.WIDTH.ensures, ← m.width_is, c.from.ensures) at c.leave.ensures)

@@ -1,10 +1,6 @@
 -- No count is above the number of heads and cases that were read, and this stays below its bound.
-use Prim.Native.Nat.{◌-◌}
 use Rattle.replay.specs.Counting.{Few}
 use Rattle.replay.proofs.reading.walk.Given as goal
 
 abbrev pub invariant-loop-k : goal.invariant-loop-k
 invariant-loop-k g l = Few l.k l.t
-
-abbrev pub decreases-loop-k : goal.decreases-loop-k
-decreases-loop-k g l = 1048576 - l.k
