@@ -1,7 +1,6 @@
 // The rules on one broadcast.
 ghost use Rattle.std.specs.Prelude.{◌≡◌, ◌≤◌, Ok, Err};
 ghost use Rattle.records.specs.Limits.{last_time};
-
 ghost use Rattle.casting.specs.Rules.{turn_b, first_copy, admitted_of, no_copies, in_radio, lent, cancel_turn, result_verdict, repeat_turn, report_turn, delivered_turn, over_verdict, last_verdict, over_turn, lapse_turn, due_turn, idle_turn, tick_turn};
 
 use casting::TurnB;
