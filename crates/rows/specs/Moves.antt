@@ -8,13 +8,8 @@ use Rattle.records.specs.declared.Verdict.{Verdict}
 use Rattle.records.specs.declared.Entry.{Entry}
 use Rattle.records.specs.declared.Action.{Action}
 use Rattle.records.specs.declared.Action.TheVariants.{HandedOff, Settled}
-
--- what becomes of one record: it stays, perhaps changed; it stays, and its handoff is told; or it is settled, its handoff told again first or not, with
--- its verdict and the hop at which its attempts ran out
-pub data Turn (A : Type 0) : Type 0 where
-  Keeps : A → Turn A
-  HandsOff : A → Turn A
-  Settles : Bool → Verdict → Option ℕ → Turn A
+pub use Rattle.rows.specs.declared.Turn.{Turn}
+use Rattle.rows.specs.declared.Turn.TheVariants.{Keeps, HandsOff, Settles}
 
 abbrev pub kept : {A : Type 0} → Turn A → List A
 kept (Keeps y) = y ∷ []
