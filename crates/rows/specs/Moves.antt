@@ -8,7 +8,7 @@ use Rattle.records.specs.declared.Verdict.{Verdict}
 use Rattle.records.specs.declared.Entry.{Entry}
 use Rattle.records.specs.declared.Action.{Action}
 use Rattle.records.specs.declared.Action.TheVariants.{HandedOff, Settled}
-pub use Rattle.rows.specs.declared.Turn.{Turn}
+use Rattle.rows.specs.declared.Turn.{Turn}
 use Rattle.rows.specs.declared.Turn.TheVariants.{Keeps, HandsOff, Settles}
 
 abbrev pub kept : {A : Type 0} → Turn A → List A
