@@ -7,7 +7,7 @@ use lib.ListN.{length}
 use Rattle.records.specs.declared.Entry.{Entry}
 use Rattle.records.specs.declared.Action.{Action}
 use Rattle.rows.specs.Tables.{Table, Holds}
-use Rattle.rows.specs.Moves.{Turn}
+use Rattle.rows.specs.declared.Turn.{Turn}
 use Rattle.rows.proofs.Promises.{held-length}
 use Rattle.actions.specs.Told.{Told}
 use Rattle.actions.specs.Calls.{Swept, Turned}

@@ -15,8 +15,9 @@ use Rattle.records.specs.Pick.{pick}
 use Rattle.records.proofs.Cases.{never}
 use Rattle.rows.specs.Lists.{remove_at}
 use Rattle.rows.specs.Tables.{Table, rows_of, live, words_for, Held, Holds}
-use Rattle.rows.specs.Moves.{Turn, kept, told, each, at_first, first_at, any_of, placed, each_told, at_first_told}
-use Rattle.rows.specs.Moves.Turn.{Keeps, Settles}
+use Rattle.rows.specs.Moves.{kept, told, each, at_first, first_at, any_of, placed, each_told, at_first_told}
+use Rattle.rows.specs.declared.Turn.{Turn}
+use Rattle.rows.specs.declared.Turn.TheVariants.{Keeps, Settles}
 use Rattle.rows.proofs.Promises.{held-length, held_at, each_from, told_from, each-stays, each_goes, each-end, told-turn, told-stored, told-removed, told-end, first_found, first-missed, told-found, told-missed}
 use Rattle.actions.specs.Told.{Told}
 use Rattle.actions.specs.Calls.{Swept, Turned, Played}

@@ -3,7 +3,8 @@
 use Rattle.std.specs.Prelude.{ℕ, Bool, List}
 use Rattle.records.specs.declared.Entry.{Entry}
 use Rattle.rows.specs.Tables.{Table, live, Holds}
-use Rattle.rows.specs.Moves.{Turn, told, each, at_first, placed, each_told, at_first_told}
+use Rattle.rows.specs.Moves.{told, each, at_first, placed, each_told, at_first_told}
+use Rattle.rows.specs.declared.Turn.{Turn}
 use Rattle.actions.specs.Told.{Told}
 
 module _ {A : Type 0} (t : Table A) (entry : A → Entry) where

@@ -9,8 +9,9 @@ use borrow.Author.Tests.{eq-eqb, ne_eqb}
 use Rattle.records.specs.Records.{blank_broadcast, broadcast_id, broadcast_entry}
 use Rattle.rows.specs.Lists.{find_by, lookup}
 use Rattle.rows.specs.Tables.{rows_of, live, Held, Holds}
-use Rattle.rows.specs.Moves.{Turn, first_at, has_id}
-use Rattle.rows.specs.Moves.Turn.{Keeps}
+use Rattle.rows.specs.Moves.{first_at, has_id}
+use Rattle.rows.specs.declared.Turn.{Turn}
+use Rattle.rows.specs.declared.Turn.TheVariants.{Keeps}
 use Rattle.rows.proofs.Promises.{hit-lt, hit-lookup, miss-lookup, find_first}
 use Rattle.tables.specs.Layouts.{broadcast_table}
 use Rattle.actions.specs.Calls.{Played}

@@ -4,7 +4,7 @@ use Prim.Native.Nat.{ℕ}
 use native.Mathlib.Omega.{arith}
 use mathlib.Core.Path.{◌≡◌, sym, ap, ◌∙◌}
 use mathlib.Core.List.{List}
-use Rattle.rows.specs.Moves.{Turn}
+use Rattle.rows.specs.declared.Turn.{Turn}
 use Rattle.actions.proofs.Ones.{OneOutcome, turned-one}
 use Rattle.casting.specs.Types.{Broadcast, Refusal}
 use Rattle.tables.specs.declared.Counts.{Counts}

@@ -9,8 +9,9 @@ use Rattle.records.specs.declared.Entry.{Entry}
 use Rattle.records.specs.declared.Action.{Action}
 use Rattle.rows.specs.Lists.{remove_at}
 use Rattle.rows.specs.Tables.{Table, rows_of, live, Held, Holds}
-use Rattle.rows.specs.Moves.{Turn, kept, told, placed}
-use Rattle.rows.specs.Moves.Turn.{Keeps, HandsOff, Settles}
+use Rattle.rows.specs.Moves.{kept, told, placed}
+use Rattle.rows.specs.declared.Turn.{Turn}
+use Rattle.rows.specs.declared.Turn.TheVariants.{Keeps, HandsOff, Settles}
 use Rattle.rows.specs.Moves.{Same}
 use Rattle.rows.proofs.Promises.{held-length, held_at, each_from, told_from, each-stays, told-turn, told-stored}
 use Rattle.tables.specs.Layouts.{broadcast_table}

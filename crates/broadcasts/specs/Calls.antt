@@ -4,7 +4,8 @@ use Rattle.std.specs.Prelude.{ℕ, ◌+◌, ◌≤◌, ◌<◌, ◌≡◌, List,
 use Rattle.records.specs.Records.{blank_broadcast, broadcast_id, broadcast_entry}
 use Rattle.rows.specs.Lists.{lookup}
 use Rattle.rows.specs.Tables.{rows_of, live, Holds}
-use Rattle.rows.specs.Moves.{Turn, at_first, has_id}
+use Rattle.rows.specs.Moves.{at_first, has_id}
+use Rattle.rows.specs.declared.Turn.{Turn}
 use Rattle.rows.specs.Moves.{Same}
 use Rattle.tables.specs.Layouts.{broadcast_table}
 use Rattle.actions.specs.Calls.{Turned}

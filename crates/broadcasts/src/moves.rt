@@ -6,14 +6,15 @@ ghost use Rattle.rows.specs.Tables.{rows_of, live, Held, Holds, Entered};
 ghost use Rattle.rows.specs.Moves.{first_at};
 ghost use Rattle.tables.specs.Layouts.{broadcast_table};
 ghost use Rattle.actions.specs.Calls.{Swept, Turned, Played};
-ghost use Rattle.casting.specs.Rules.{turn_b, admitted_of, keyed, report_turn, report_bar, delivered_turn, cancel_turn, cancel_bar, tick_turn};
+ghost use Rattle.casting.specs.Rules.{admitted_of, keyed, report_turn, report_bar, delivered_turn, cancel_turn, cancel_bar, tick_turn};
 ghost use Rattle.broadcasts.specs.Calls.{Plays, Answered, Dequeued};
 
 use crate::asks;
-use casting::{TurnB, heads};
+use casting::heads;
 use records::blanks::broadcast_entry;
 use records::{Broadcast, Priority, QuorumKey, Refusal, Schedule, TxResult};
 use repeating::turns;
+use rows::Turn;
 use tables::{Counts, broadcast_rows};
 
 // The broadcast at place i, which is u, has this turn.
@@ -24,19 +25,19 @@ fn play(
     m: usize,
     i: usize,
     u: Broadcast,
-    t: TurnB,
+    t: Turn<Broadcast>,
 ) -> Counts
     requires held { Held broadcast_table w.old n }
-    requires plays { Plays w.old n m i u (turn_b t) }
-    ensures { Played broadcast_table broadcast_entry (turn_b t) i u w.old n told.old m w.new result.sends told.new result.told }
+    requires plays { Plays w.old n m i u t }
+    ensures { Played broadcast_table broadcast_entry t i u w.old n told.old m w.new result.sends told.new result.told }
 {
     let e = broadcast_entry(u);
     match t {
-        TurnB::KeepsB(b) => {
+        Turn::Keeps(b) => {
             tables::store(w, n, i, b);
             Counts { sends: n, told: m }
         }
-        TurnB::HandsOffB(b) => {
+        Turn::HandsOff(b) => {
             tables::store(w, n, i, b);
             let next = actions::hand_off(told, m, e);
             Counts {
@@ -44,8 +45,8 @@ fn play(
                 told: next,
             }
         }
-        TurnB::SettlesB(again, v) => {
-            let next = actions::settle_again(told, m, e, again, v, None);
+        Turn::Settles(again, v, hop) => {
+            let next = actions::settle_again(told, m, e, again, v, hop);
             tables::remove_at::<Broadcast>(w, n, i);
             Counts {
                 sends: n - 1,

@@ -3,7 +3,7 @@ use Rattle.std.specs.Prelude.{None, Some, Ok, Err}
 use Prim.Native.Nat.{ℕ}
 use mathlib.Core.Path.{◌≡◌, refl}
 use mathlib.Core.Bool.{true, false}
-use Rattle.rows.specs.Moves.Turn.{Keeps, HandsOff, Settles}
+use Rattle.rows.specs.declared.Turn.TheVariants.{Keeps, HandsOff, Settles}
 use Rattle.casting.specs.Types.{Priority, QuorumKey, PassiveAck, Idle, CopyQueued, Broadcast, HandoffTimeout, BroadcastQuorumNotReached, Success, Failure, Code}
 use Rattle.casting.specs.Rules.{remade, admitted_of, lent, tick_turn, report_turn, delivered_turn, ready}
 

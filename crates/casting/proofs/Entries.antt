@@ -8,7 +8,8 @@ use lib.Dec.{leb, eqb}
 use Rattle.records.specs.Records.{broadcast_entry}
 use Rattle.records.specs.declared.Entry.{Entry}
 use Rattle.records.proofs.Cases.{either}
-use Rattle.rows.specs.Moves.{Turn, each, at_first, count, each_told, at_first_told, has_id, settled_of}
+use Rattle.rows.specs.Moves.{each, at_first, count, each_told, at_first_told, has_id, settled_of}
+use Rattle.rows.specs.declared.Turn.{Turn}
 use Rattle.rows.specs.Moves.{Same}
 use Rattle.rows.proofs.Promises.{entries, each-count, first_count}
 use Rattle.casting.specs.Types.{Schedule, Once, PassiveAck, FixedInterval, CopyState, Idle, CopyQueued, CopyTransmitting, Broadcast, QuorumKey, TxResult}

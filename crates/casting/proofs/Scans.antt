@@ -9,7 +9,7 @@ use lib.ListN.{length, drop, get_or}
 use Rattle.records.specs.Records.{blank_broadcast}
 use Rattle.rows.specs.Tables.{rows_of, live, Held}
 use Rattle.rows.specs.Moves.{first_at}
-use Rattle.rows.specs.Moves.Turn.{Keeps}
+use Rattle.rows.specs.declared.Turn.TheVariants.{Keeps}
 use Rattle.rows.proofs.Promises.{held-length, length-rows_of, live-cons, live-done, first_found}
 use Rattle.tables.specs.Layouts.{broadcast_table, broadcast_head}
 use Rattle.casting.specs.Types.{Broadcast, BroadcastHead, QuorumKey, Schedule}

@@ -7,7 +7,7 @@ use lib.Dec.{leb}
 use borrow.Author.Tests.{lt-leb, leb-false, leb-true}
 use Rattle.records.specs.Pick.{pick}
 use Rattle.records.proofs.Cases.{never}
-use Rattle.rows.specs.Moves.Turn.{Keeps}
+use Rattle.rows.specs.declared.Turn.TheVariants.{Keeps}
 use Rattle.tables.specs.Layouts.{broadcast_head}
 use Rattle.casting.specs.Types.{Schedule, Once, PassiveAck, FixedInterval, CopyState, Idle, CopyQueued, CopyTransmitting, Broadcast}
 use Rattle.casting.specs.Rules.{lapse_turn, due_turn, idle_turn, tick_by, tick_turn, attempt_by, stirs_by, stirs_head, attempt_due, copy_due, may_stir}

@@ -12,7 +12,8 @@ use Rattle.records.specs.Records.{broadcast_entry}
 use Rattle.records.specs.Times.{sooner}
 use Rattle.records.specs.declared.Action.{Action}
 use Rattle.records.proofs.Cases.{never}
-use Rattle.rows.specs.Moves.{Turn, kept, told, each, each_told, any_of}
+use Rattle.rows.specs.Moves.{kept, told, each, each_told, any_of}
+use Rattle.rows.specs.declared.Turn.{Turn}
 use Rattle.tables.specs.Layouts.{broadcast_head}
 use Rattle.casting.specs.Types.{CopyState, Idle, CopyQueued, CopyTransmitting, Broadcast}
 use Rattle.casting.specs.Rules.{tick_turn, attempt_by, stirs_by, wake_by, wake_of}

@@ -3,8 +3,9 @@ use Rattle.std.specs.Prelude.{ℕ, ◌≤◌, ◌<◌, ◌≡◌, Bool, true, fa
 use Rattle.records.specs.Priorities.{rank_of}
 use Rattle.records.specs.Records.{broadcast_id, broadcast_entry}
 use Rattle.rows.specs.Lists.{All, lookup, Rising}
-use Rattle.rows.specs.Moves.{Turn, each, each_told, any_of}
-use Rattle.rows.specs.Moves.Turn.{Keeps, HandsOff, Settles}
+use Rattle.rows.specs.Moves.{each, each_told, any_of}
+use Rattle.rows.specs.declared.Turn.{Turn}
+use Rattle.rows.specs.declared.Turn.TheVariants.{Keeps, HandsOff, Settles}
 use Rattle.tables.specs.Layouts.{broadcast_head}
 use Rattle.casting.specs.Types.{Schedule, Once, PassiveAck, FixedInterval, CopyState, Idle, CopyQueued, CopyTransmitting, Broadcast}
 use Rattle.casting.specs.Rules.{no_copies, tick_turn, stirs_head, ready, best_of, wake_of}

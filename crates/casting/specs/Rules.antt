@@ -7,16 +7,10 @@ use Rattle.records.specs.Records.{broadcast_id}
 use Rattle.records.specs.Same.{same_quorum_key}
 use Rattle.records.specs.Times.{sooner}
 use Rattle.rows.specs.Lists.{fold, lookup}
-use Rattle.rows.specs.Moves.{Turn}
-use Rattle.rows.specs.Moves.Turn.{Keeps, HandsOff, Settles}
+use Rattle.rows.specs.declared.Turn.{Turn}
+use Rattle.rows.specs.declared.Turn.TheVariants.{Keeps, HandsOff, Settles}
 use Rattle.tables.specs.Layouts.{broadcast_head}
-use Rattle.casting.specs.Types.{Priority, QuorumKey, Schedule, Once, PassiveAck, FixedInterval, CopyState, Idle, CopyQueued, CopyTransmitting, Broadcast, TxResult, HandoffTimeout, BroadcastQuorumNotReached, Cancelled, Verdict, Success, Failure, Code, Refusal, NoSuchSend, InTheRadio, NotInTheRadio, OtherFrame, BroadcastHead, TurnB, KeepsB, HandsOffB, SettlesB}
-
--- the turn that an answer says: a broadcast never has a failed hop
-abbrev pub turn_b : TurnB → Turn Broadcast
-turn_b (KeepsB b) = Keeps b
-turn_b (HandsOffB b) = HandsOff b
-turn_b (SettlesB again v) = Settles again v None
+use Rattle.casting.specs.Types.{Priority, QuorumKey, Schedule, Once, PassiveAck, FixedInterval, CopyState, Idle, CopyQueued, CopyTransmitting, Broadcast, TxResult, HandoffTimeout, BroadcastQuorumNotReached, Cancelled, Verdict, Success, Failure, Code, Refusal, NoSuchSend, InTheRadio, NotInTheRadio, OtherFrame, BroadcastHead}
 
 -- ---- on one broadcast
 

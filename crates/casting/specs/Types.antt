@@ -13,6 +13,4 @@ pub use Rattle.records.specs.declared.Verdict.TheVariants.{Success, Failure, Cod
 pub use Rattle.records.specs.declared.Refusal.{Refusal}
 pub use Rattle.records.specs.declared.Refusal.TheVariants.{NoSuchSend, InTheRadio, NotInTheRadio, OtherFrame}
 pub use Rattle.tables.specs.declared.broadcast_rows.BroadcastHead.{BroadcastHead}
-pub use Rattle.casting.specs.declared.TurnB.{TurnB}
-pub use Rattle.casting.specs.declared.TurnB.TheVariants.{KeepsB, HandsOffB, SettlesB}
 pub use Rattle.tables.specs.declared.Counts.{Counts}

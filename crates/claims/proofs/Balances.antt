@@ -16,8 +16,9 @@ use Rattle.records.specs.Records.{unicast_id, broadcast_id, unicast_entry, unrou
 use Rattle.records.specs.declared.Entry.{Entry}
 use Rattle.records.proofs.Cases.{either, either-by}
 use Rattle.rows.specs.Lists.{insert_by, lookup}
-use Rattle.rows.specs.Moves.{Turn, at_first, first_of, any_of, count, each_told, at_first_told, has_id, Same, settled_of}
-use Rattle.rows.specs.Moves.Turn.{Keeps}
+use Rattle.rows.specs.Moves.{at_first, first_of, any_of, count, each_told, at_first_told, has_id, Same, settled_of}
+use Rattle.rows.specs.declared.Turn.{Turn}
+use Rattle.rows.specs.declared.Turn.TheVariants.{Keeps}
 use Rattle.rows.proofs.Promises.{entries, count-append, count_map, settled-append, first_count, insert-count}
 use Rattle.casting.specs.Rules as bro
 use Rattle.casting.proofs.Entries as bros

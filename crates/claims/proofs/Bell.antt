@@ -11,7 +11,8 @@ use Rattle.records.specs.Records.{unicast_entry, broadcast_entry, broadcast_id}
 use Rattle.records.specs.Same.{same_ack_key, same_quorum_key}
 use Rattle.records.proofs.Same.{itself-ack-key, itself-quorum-key}
 use Rattle.rows.specs.Lists.{All, lookup}
-use Rattle.rows.specs.Moves.{Turn, kept, told, at_first, at_first_told, first_of, any_of, has_id}
+use Rattle.rows.specs.Moves.{kept, told, at_first, at_first_told, first_of, any_of, has_id}
+use Rattle.rows.specs.declared.Turn.{Turn}
 use Rattle.sending.specs.Rules as uni
 use Rattle.sending.specs.Lists as unis
 use Rattle.casting.specs.Rules as bro

@@ -15,7 +15,8 @@ use Rattle.records.specs.Records.{unicast_id, unrouted_id, broadcast_id, unicast
 use Rattle.records.specs.Priorities.{rank_of}
 use Rattle.records.proofs.Cases.{either, never}
 use Rattle.rows.specs.Lists.{All, insert_by, lookup}
-use Rattle.rows.specs.Moves.{Turn, told, at_first_told, first_of, any_of, count, has_id, each_told}
+use Rattle.rows.specs.Moves.{told, at_first_told, first_of, any_of, count, has_id, each_told}
+use Rattle.rows.specs.declared.Turn.{Turn}
 use Rattle.rows.proofs.Promises.{first-has, told-found, told-missed}
 use Rattle.casting.specs.Rules as bro
 use Rattle.sending.specs.Rules as uni

@@ -11,8 +11,9 @@ use Rattle.records.specs.Pick.{pick}
 use Rattle.claims.specs.CausesTypes.{Verdict, Success, Failure, Code, Entry, Action, HandedOff, Settled}
 use Rattle.records.proofs.Cases.{either-by}
 use Rattle.rows.specs.Lists.{All, Rising}
-use Rattle.rows.specs.Moves.{Turn, kept, told, each, at_first, first_of, each_told, at_first_told, id_of}
-use Rattle.rows.specs.Moves.Turn.{Keeps, HandsOff, Settles}
+use Rattle.rows.specs.Moves.{kept, told, each, at_first, first_of, each_told, at_first_told, id_of}
+use Rattle.rows.specs.declared.Turn.{Turn}
+use Rattle.rows.specs.declared.Turn.TheVariants.{Keeps, HandsOff, Settles}
 use Rattle.rows.proofs.Promises.{first-has, first-oldest}
 use Rattle.claims.specs.Causes.{Fact, Oldest, Reported, Caused}
 

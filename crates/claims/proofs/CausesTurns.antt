@@ -7,7 +7,7 @@ use lib.Dec.{ltb, leb, eqb}
 use Rattle.records.specs.Records.{unicast_entry, unrouted_entry, broadcast_entry}
 use Rattle.records.proofs.Cases.{either, either-by, never, both}
 use Rattle.records.proofs.Same.{equal-ack-key, equal-quorum-key}
-use Rattle.rows.specs.Moves.{Turn}
+use Rattle.rows.specs.declared.Turn.{Turn}
 use Rattle.sending.specs.Rules as uni
 use Rattle.unrouted.specs.Rules as unr
 use Rattle.casting.specs.Rules as bro

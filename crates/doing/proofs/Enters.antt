@@ -11,7 +11,8 @@ use Rattle.records.specs.Limits.{last_time}
 use Rattle.records.specs.Records.{broadcast_id, unicast_entry, broadcast_entry}
 use Rattle.rows.specs.Lists.{lookup}
 use Rattle.rows.specs.Tables.{Table, live, Held}
-use Rattle.rows.specs.Moves.{Turn, first_of, has_id}
+use Rattle.rows.specs.Moves.{first_of, has_id}
+use Rattle.rows.specs.declared.Turn.{Turn}
 use Rattle.rows.proofs.Promises.{held-length}
 use Rattle.unicasts.specs.Calls.{Called}
 use Rattle.tables.specs.declared.Counts as left

@@ -8,8 +8,9 @@ use lib.Dec.{eqb}
 use Rattle.records.specs.Pick.{pick}
 use Rattle.records.specs.declared.Refusal.TheVariants.{InTheRadio}
 use Rattle.rows.specs.Lists.{find_by}
-use Rattle.rows.specs.Moves.{Turn, any_of}
-use Rattle.rows.specs.Moves.Turn.{Keeps}
+use Rattle.rows.specs.Moves.{any_of}
+use Rattle.rows.specs.declared.Turn.{Turn}
+use Rattle.rows.specs.declared.Turn.TheVariants.{Keeps}
 use Rattle.rows.proofs.Promises.{find_first, first_found, first-missed}
 use Rattle.sending.specs.Rules.{sent_copy}
 use Rattle.broadcasts.specs.Calls.{Answered}

@@ -21,7 +21,8 @@ use Rattle.records.specs.declared.Confirm.TheVariants.{OnHandoff}
 use Rattle.records.specs.declared.Address.TheVariants.{Absent}
 use Rattle.records.proofs.Cases.{lt-or-le, eq-or-ne, either, never}
 use Rattle.rows.specs.Lists.{All, Rising, lookup}
-use Rattle.rows.specs.Moves.{Turn, count, first_of, any_of, each_told, at_first_told, id_of, has_id}
+use Rattle.rows.specs.Moves.{count, first_of, any_of, each_told, at_first_told, id_of, has_id}
+use Rattle.rows.specs.declared.Turn.{Turn}
 use Rattle.rows.proofs.Promises.{each-length, rising-lower}
 use Rattle.sending.specs.Rules as uni
 use Rattle.unrouted.specs.Rules as unr

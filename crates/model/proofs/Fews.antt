@@ -9,8 +9,9 @@ use Rattle.records.specs.declared.Action.{Action}
 use Rattle.records.specs.declared.Unrouted.{Unrouted}
 use Rattle.records.specs.Records.{unrouted_entry}
 use Rattle.records.proofs.Cases.{either}
-use Rattle.rows.specs.Moves.{Turn, told, each_told, at_first_told}
-use Rattle.rows.specs.Moves.Turn.{Keeps, HandsOff, Settles}
+use Rattle.rows.specs.Moves.{told, each_told, at_first_told}
+use Rattle.rows.specs.declared.Turn.{Turn}
+use Rattle.rows.specs.declared.Turn.TheVariants.{Keeps, HandsOff, Settles}
 use Rattle.unrouted.specs.declared.Which.{Which}
 use Rattle.unrouted.specs.Rules.{chosen, sweep_turn}
 

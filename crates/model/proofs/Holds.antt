@@ -13,7 +13,7 @@ use Rattle.records.specs.declared.Entry.{Entry}
 use Rattle.records.proofs.Cases.{either, either-by, never}
 use Rattle.rows.specs.Lists.{remove_by}
 use Rattle.rows.specs.Moves.{has_id}
-use Rattle.rows.specs.Moves.Turn.{Keeps}
+use Rattle.rows.specs.declared.Turn.TheVariants.{Keeps}
 use Rattle.unrouted.specs.Rules.{goes_to, is_held, newly_held, holding, no_room, spent_by}
 use Rattle.model.specs.Types.{Unrouted, Destination, Granted}
 use Rattle.model.specs.Sound.{Kept}

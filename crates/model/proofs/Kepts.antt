@@ -13,7 +13,8 @@ use Rattle.records.specs.Pick.{pick, bit}
 use Rattle.records.specs.declared.Entry.{Entry}
 use Rattle.records.proofs.Cases.{either, either-by, eq-or-ne}
 use Rattle.rows.specs.Lists.{All, Rising, insert_by, remove_by, lookup}
-use Rattle.rows.specs.Moves.{Turn, kept, each, at_first, any_of, count, id_of, has_id, Same}
+use Rattle.rows.specs.Moves.{kept, each, at_first, any_of, count, id_of, has_id, Same}
+use Rattle.rows.specs.declared.Turn.{Turn}
 use Rattle.rows.proofs.Promises.{each-count, first_count, each-rising, first-rising, each-length, first-length, rising-lower, rising-insert, rising-remove, length-remove-le, lookup-insert-same, lookup-insert-other, lookup-remove-other}
 use Rattle.model.specs.Calls.{only}
 use Rattle.model.specs.Sound.{Kept}

@@ -16,8 +16,9 @@ use Rattle.records.specs.Records.{unicast_id, unrouted_id, broadcast_id, destina
 use Rattle.records.specs.declared.Entry.{Entry}
 use Rattle.records.proofs.Cases.{either, either-by, both}
 use Rattle.rows.specs.Lists.{All, Rising, lookup, insert_by, remove_by}
-use Rattle.rows.specs.Moves.{Turn, kept, told, each, at_first, any_of, count, each_told, id_of, has_id}
-use Rattle.rows.specs.Moves.Turn.{Keeps}
+use Rattle.rows.specs.Moves.{kept, told, each, at_first, any_of, count, each_told, id_of, has_id}
+use Rattle.rows.specs.declared.Turn.{Turn}
+use Rattle.rows.specs.declared.Turn.TheVariants.{Keeps}
 use Rattle.rows.proofs.Promises.{rising-lower, each-rising, lookup-each, lookup-first-same, lookup-insert-same, lookup-insert-other, lookup-remove-same, told-found, after}
 use Rattle.sending.specs.Rules as uni
 use Rattle.sending.specs.Lists as unis

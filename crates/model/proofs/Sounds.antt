@@ -15,8 +15,9 @@ use Rattle.records.specs.Records.{unicast_id, unrouted_id, broadcast_id, destina
 use Rattle.records.specs.Priorities.{rank_of}
 use Rattle.records.proofs.Cases.{either, either-by, eq-or-ne}
 use Rattle.rows.specs.Lists.{All, insert_by, remove_by, lookup}
-use Rattle.rows.specs.Moves.{Turn, kept, at_first, first_of, any_of, count, has_id, Same}
-use Rattle.rows.specs.Moves.Turn.{Keeps, HandsOff, Settles}
+use Rattle.rows.specs.Moves.{kept, at_first, first_of, any_of, count, has_id, Same}
+use Rattle.rows.specs.declared.Turn.{Turn}
+use Rattle.rows.specs.declared.Turn.TheVariants.{Keeps, HandsOff, Settles}
 use Rattle.casting.specs.Claims.{Sane, Leaves}
 use Rattle.casting.specs.Rules as bro
 use Rattle.casting.proofs.Entries.{same-dequeue, same-cancel, same-report, same-delivered, same-tick}

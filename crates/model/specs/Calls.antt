@@ -6,7 +6,8 @@ use Rattle.records.specs.Priorities.{rank_of}
 use Rattle.records.specs.Records.{unicast_id, unrouted_id, broadcast_id, destination_address, unicast_entry, unrouted_entry, broadcast_entry}
 use Rattle.records.specs.Times.{sooner}
 use Rattle.rows.specs.Lists.{insert_by, remove_by, lookup}
-use Rattle.rows.specs.Moves.{Turn, each, at_first, first_of, any_of, count, each_told, at_first_told, has_id}
+use Rattle.rows.specs.Moves.{each, at_first, first_of, any_of, count, each_told, at_first_told, has_id}
+use Rattle.rows.specs.declared.Turn.{Turn}
 use Rattle.model.specs.Types.{Address, AckKey, QuorumKey, Schedule, Once, PassiveAck, FixedInterval, Unicast, Unrouted, Broadcast, Settings, TxResult, Entry, Code, Action, Settled, Refusal, TimeTooLate, IdsExhausted, NoCopies, NoPlace, NoSuchSend, InTheRadio, DestinationNotHeld, ResultsMismatch, Lapsed, Bound, Retry, NotHeld, Declined, Granted, NewUnicast, NewUnrouted, NewBroadcast, Resolved, Lender, FromUnicasts, FromBroadcasts, Unicasting, Broadcasting, Answer, Issued, Replied, NothingQueued, InFlight}
 use Rattle.model.specs.Model.{Model, Effect, with_unicasts, with_unrouted, with_broadcasts, denied, done, answers}
 use Rattle.sending.specs.Rules as uni

@@ -1,10 +1,10 @@
 // The rules on one broadcast.
 ghost use Rattle.std.specs.Prelude.{◌≡◌, ◌≤◌, Ok, Err};
 ghost use Rattle.records.specs.Limits.{last_time};
-ghost use Rattle.casting.specs.Rules.{turn_b, first_copy, admitted_of, no_copies, in_radio, lent, cancel_turn, result_verdict, repeat_turn, report_turn, delivered_turn, over_verdict, last_verdict, over_turn, lapse_turn, due_turn, idle_turn, tick_turn};
+ghost use Rattle.casting.specs.Rules.{first_copy, admitted_of, no_copies, in_radio, lent, cancel_turn, result_verdict, repeat_turn, report_turn, delivered_turn, over_verdict, last_verdict, over_turn, lapse_turn, due_turn, idle_turn, tick_turn};
 
-use casting::TurnB;
 use records::{Broadcast, CopyState, Priority, Schedule, SendFailure, TxResult, Verdict};
+use rows::Turn;
 
 fn first_copy(s: Schedule) -> CopyState
     ensures { result ≡ first_copy s }
@@ -75,10 +75,10 @@ pub fn dequeued(b: Broadcast) -> Broadcast
     }
 }
 
-pub fn cancel(b: Broadcast) -> TurnB
-    ensures { turn_b result ≡ cancel_turn b }
+pub fn cancel(b: Broadcast) -> Turn<Broadcast>
+    ensures { result ≡ cancel_turn b }
 {
-    TurnB::SettlesB(b.handed_off, Verdict::Failure(SendFailure::Cancelled))
+    Turn::Settles(b.handed_off, Verdict::Failure(SendFailure::Cancelled), None)
 }
 
 fn result_verdict(x: TxResult) -> Verdict
@@ -91,11 +91,11 @@ fn result_verdict(x: TxResult) -> Verdict
 }
 
 // A copy is on the air: the first one is the handoff, unless quorum was heard already, which ends it.
-fn repeat_sent(b: Broadcast, schedule: Schedule) -> TurnB
-    ensures { turn_b result ≡ repeat_turn b schedule (Ok tt) }
+fn repeat_sent(b: Broadcast, schedule: Schedule) -> Turn<Broadcast>
+    ensures { result ≡ repeat_turn b schedule (Ok tt) }
 {
     if b.quorum_heard {
-        return TurnB::SettlesB(true, Verdict::Success);
+        return Turn::Settles(true, Verdict::Success, None);
     }
     let next = Broadcast {
         schedule,
@@ -104,20 +104,20 @@ fn repeat_sent(b: Broadcast, schedule: Schedule) -> TurnB
         ..b
     };
     if b.handed_off {
-        TurnB::KeepsB(next)
+        Turn::Keeps(next)
     } else {
-        TurnB::HandsOffB(next)
+        Turn::HandsOff(next)
     }
 }
 
 // A lost copy ends nothing: its error is kept for the case that none is handed off.
-fn repeat_failed(b: Broadcast, schedule: Schedule, code: u16) -> TurnB
-    ensures { turn_b result ≡ repeat_turn b schedule (Err code) }
+fn repeat_failed(b: Broadcast, schedule: Schedule, code: u16) -> Turn<Broadcast>
+    ensures { result ≡ repeat_turn b schedule (Err code) }
 {
     if b.quorum_heard && b.handed_off {
-        return TurnB::SettlesB(true, Verdict::Success);
+        return Turn::Settles(true, Verdict::Success, None);
     }
-    TurnB::KeepsB(Broadcast {
+    Turn::Keeps(Broadcast {
         schedule,
         copy: CopyState::Idle,
         last_error: Some(code),
@@ -125,8 +125,8 @@ fn repeat_failed(b: Broadcast, schedule: Schedule, code: u16) -> TurnB
     })
 }
 
-fn repeat(b: Broadcast, schedule: Schedule, x: TxResult) -> TurnB
-    ensures { turn_b result ≡ repeat_turn b schedule x }
+fn repeat(b: Broadcast, schedule: Schedule, x: TxResult) -> Turn<Broadcast>
+    ensures { result ≡ repeat_turn b schedule x }
 {
     match x {
         Ok(()) => repeat_sent(b, schedule),
@@ -135,12 +135,12 @@ fn repeat(b: Broadcast, schedule: Schedule, x: TxResult) -> TurnB
 }
 
 // The radio reports on the copy that it had. `delay` spaces the next copy of a passive-ack broadcast from this one.
-pub fn report(b: Broadcast, x: TxResult, clock: u64, delay: u32) -> TurnB
+pub fn report(b: Broadcast, x: TxResult, clock: u64, delay: u32) -> Turn<Broadcast>
     requires { clock ≤ last_time }
-    ensures { turn_b result ≡ report_turn x clock delay b }
+    ensures { result ≡ report_turn x clock delay b }
 {
     match b.schedule {
-        Schedule::Once => TurnB::SettlesB(b.handed_off, result_verdict(x)),
+        Schedule::Once => Turn::Settles(b.handed_off, result_verdict(x), None),
         Schedule::PassiveAck {
             key,
             copies_remaining,
@@ -169,16 +169,16 @@ pub fn report(b: Broadcast, x: TxResult, clock: u64, delay: u32) -> TurnB
 }
 
 // The quorum for its key was heard. A broadcast is never delivered before a copy of it was on the air.
-pub fn delivered(b: Broadcast) -> TurnB
-    ensures { turn_b result ≡ delivered_turn b }
+pub fn delivered(b: Broadcast) -> Turn<Broadcast>
+    ensures { result ≡ delivered_turn b }
 {
     if in_radio(b.copy) || !b.handed_off {
-        return TurnB::KeepsB(Broadcast {
+        return Turn::Keeps(Broadcast {
             quorum_heard: true,
             ..b
         });
     }
-    TurnB::SettlesB(true, Verdict::Success)
+    Turn::Settles(true, Verdict::Success, None)
 }
 
 // Nothing confirms a fixed-interval broadcast: one copy on the air completes it.
@@ -202,33 +202,39 @@ fn last_verdict(e: Option<u16>) -> Verdict
 }
 
 // No copy is left.
-fn over(b: Broadcast) -> TurnB
-    ensures { turn_b result ≡ over_turn b }
+fn over(b: Broadcast) -> Turn<Broadcast>
+    ensures { result ≡ over_turn b }
 {
     if b.handed_off {
-        TurnB::SettlesB(true, over_verdict(b.schedule))
+        Turn::Settles(true, over_verdict(b.schedule), None)
     } else {
-        TurnB::SettlesB(false, last_verdict(b.last_error))
+        Turn::Settles(false, last_verdict(b.last_error), None)
     }
 }
 
 // It is not over: it fails at its deadline.
-fn lapse(b: Broadcast, clock: u64) -> TurnB
-    ensures { turn_b result ≡ lapse_turn clock b }
+fn lapse(b: Broadcast, clock: u64) -> Turn<Broadcast>
+    ensures { result ≡ lapse_turn clock b }
 {
     if clock < b.deadline {
-        return TurnB::KeepsB(b);
+        return Turn::Keeps(b);
     }
     if b.handed_off {
-        TurnB::SettlesB(true, over_verdict(b.schedule))
+        Turn::Settles(true, over_verdict(b.schedule), None)
     } else {
-        TurnB::SettlesB(false, Verdict::Failure(SendFailure::HandoffTimeout))
+        Turn::Settles(false, Verdict::Failure(SendFailure::HandoffTimeout), None)
     }
 }
 
 // It is idle, and its next copy comes at `next`: where that is due and one of `copies` is left, the schedule goes on as `left`.
-fn tick_repeating(b: Broadcast, left: Schedule, copies: u8, next: u64, clock: u64) -> TurnB
-    ensures { turn_b result ≡ due_turn clock b left copies next }
+fn tick_repeating(
+    b: Broadcast,
+    left: Schedule,
+    copies: u8,
+    next: u64,
+    clock: u64,
+) -> Turn<Broadcast>
+    ensures { result ≡ due_turn clock b left copies next }
 {
     if clock < next {
         return lapse(b, clock);
@@ -245,8 +251,8 @@ fn tick_repeating(b: Broadcast, left: Schedule, copies: u8, next: u64, clock: u6
 }
 
 // It is idle: a copy may be due.
-fn tick_idle(b: Broadcast, clock: u64) -> TurnB
-    ensures { turn_b result ≡ idle_turn clock b b.schedule }
+fn tick_idle(b: Broadcast, clock: u64) -> Turn<Broadcast>
+    ensures { result ≡ idle_turn clock b b.schedule }
 {
     match b.schedule {
         Schedule::Once => lapse(b, clock),
@@ -280,12 +286,12 @@ fn tick_idle(b: Broadcast, clock: u64) -> TurnB
 }
 
 // What time does to it.
-pub fn tick(b: Broadcast, clock: u64) -> TurnB
-    ensures { turn_b result ≡ tick_turn clock b }
+pub fn tick(b: Broadcast, clock: u64) -> Turn<Broadcast>
+    ensures { result ≡ tick_turn clock b }
 {
     match b.copy {
         CopyState::Idle => tick_idle(b, clock),
         CopyState::CopyQueued => lapse(b, clock),
-        CopyState::CopyTransmitting => TurnB::KeepsB(b),
+        CopyState::CopyTransmitting => Turn::Keeps(b),
     }
 }

@@ -21,8 +21,9 @@ use Rattle.records.specs.Pick.{pick, bit}
 use Rattle.records.proofs.Cases.{lt-or-le, eq-or-ne, either, never}
 use Rattle.rows.specs.Lists.{place_of, find_by, lookup, insert_by, remove_by, remove_at, fold, All, Rising, inserted_of}
 use Rattle.rows.specs.Tables.{Table, rows_of, live, Held, Holds, Then, Entered}
-use Rattle.rows.specs.Moves.{Turn, kept, told, each, at_first, first_of, first_at, place_from, placed, any_of, count, each_told, at_first_told, id_of, has_id, Same, settled_of}
-use Rattle.rows.specs.Moves.Turn.{Keeps, HandsOff, Settles}
+use Rattle.rows.specs.Moves.{kept, told, each, at_first, first_of, first_at, place_from, placed, any_of, count, each_told, at_first_told, id_of, has_id, Same, settled_of}
+use Rattle.rows.specs.declared.Turn.{Turn}
+use Rattle.rows.specs.declared.Turn.TheVariants.{Keeps, HandsOff, Settles}
 use Rattle.rows.proofs.Search.{length-rows}
 use Rattle.rows.proofs.Flat.{length-insert_at, length-remove_at}
 use Rattle.rows.proofs.Keys.{find_past, found, not_found, insert-hit, insert-miss, remove-hit}

@@ -1,5 +1,5 @@
 -- The four moves: every change that a call makes to a table of sends. Every record has its turn (each), the first with a test has it (at_first), one
--- enters under its id (insert_by, in Lists), or all go ([]). A turn says what becomes of one record; the move says what becomes of the table and, with
+-- enters under its id (insert_by, in Lists), or all go ([]). A turn, a `Turn` of src/lib.rt, says what becomes of one record; the move says what becomes of the table and, with
 -- the id and the handles of the record in it, what is told.
 use Rattle.std.specs.Prelude.{ℕ, suc, ◌+◌, ◌≡◌, Bool, true, false, List, [], ◌∷◌, ◌++◌, set, eqb, Option, None, Some, option_map}
 use Rattle.records.specs.Pick.{pick, bit}
@@ -8,13 +8,8 @@ use Rattle.records.specs.declared.Verdict.{Verdict}
 use Rattle.records.specs.declared.Entry.{Entry}
 use Rattle.records.specs.declared.Action.{Action}
 use Rattle.records.specs.declared.Action.TheVariants.{HandedOff, Settled}
-
--- what becomes of one record: it stays, perhaps changed; it stays, and its handoff is told; or it is settled, its handoff told again first or not, with
--- its verdict and the hop at which its attempts ran out
-pub data Turn (A : Type 0) : Type 0 where
-  Keeps : A → Turn A
-  HandsOff : A → Turn A
-  Settles : Bool → Verdict → Option ℕ → Turn A
+use Rattle.rows.specs.declared.Turn.{Turn}
+use Rattle.rows.specs.declared.Turn.TheVariants.{Keeps, HandsOff, Settles}
 
 abbrev pub kept : {A : Type 0} → Turn A → List A
 kept (Keeps y) = y ∷ []

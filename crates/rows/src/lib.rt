@@ -1,11 +1,22 @@
 // Rows of words in a lent slice: row i is the `width` words from i * width on, and its first word is its key. One search and
-// two moves that serve every table.
+// two moves that serve every table; and what a rule answers for a record of one.
 #![tactic(auto)]
 
 ghost use Rattle.std.specs.Prelude.{◌≡◌, ◌+◌, ◌*◌, ◌≤◌, ◌<◌, length, replicate};
 ghost use Rattle.std.proofs.lemmas.List.Edits.{sets};
 ghost use Rattle.rows.specs.Lists.{place_of};
 ghost use Rattle.rows.specs.Rows.{first_word, rows_from, itself, spot_in, place_of_spot, Searched, moved, closed, opened, Slotted, Unslotted};
+
+use records::Verdict;
+
+// What becomes of one record: it stays, perhaps changed; it stays, and its handoff is told; or it is settled, its handoff told
+// again first or not, with its verdict and the hop at which its attempts ran out.
+#[derive(Clone, Copy)]
+pub enum Turn<T> {
+    Keeps(T),
+    HandsOff(T),
+    Settles(bool, Verdict, Option<u16>),
+}
 
 // Where a row may be written: nowhere, over the one with its key, or at a new place.
 #[derive(Clone, Copy)]

@@ -9,8 +9,9 @@ use lib.ListN.{get_or, set}
 use Rattle.records.specs.Records.{unicast_entry, unicast_id, blank_unicast}
 use Rattle.rows.specs.Lists.{find_by}
 use Rattle.rows.specs.Tables.{rows_of, live, words_for, Held, Holds}
-use Rattle.rows.specs.Moves.{Turn, first_at, first_of, any_of, at_first, has_id}
-use Rattle.rows.specs.Moves.Turn.{Keeps}
+use Rattle.rows.specs.Moves.{first_at, first_of, any_of, at_first, has_id}
+use Rattle.rows.specs.declared.Turn.{Turn}
+use Rattle.rows.specs.declared.Turn.TheVariants.{Keeps}
 use Rattle.rows.proofs.Promises.{held-length, held_at, find_first, first_found, first-missed}
 use Rattle.tables.specs.Layouts.{unicast_table}
 use Rattle.sending.specs.Types.{Unicast}

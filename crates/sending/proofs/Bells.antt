@@ -7,7 +7,7 @@ use mathlib.Core.List.{[], ◌∷◌}
 use Rattle.records.specs.Numbers.{default_settings}
 use Rattle.records.specs.declared.Priority.TheVariants.{UserNormal, UserHigh}
 use Rattle.rows.specs.Moves.{at_first}
-use Rattle.rows.specs.Moves.Turn.{Keeps, Settles}
+use Rattle.rows.specs.declared.Turn.TheVariants.{Keeps, Settles}
 use Rattle.sending.specs.Types.{Address, Absent, Short, Priority, AckKey, Confirm, ApsAck, Queued, Transmitting, Retrying, AwaitingPoll, Unicast, HandoffTimeout, Success, Failure, Code}
 use Rattle.sending.specs.Rules.{remade_of, with_stage, admitted_of, keyed, ack_turn, report_turn, tick_turn, beside}
 use Rattle.sending.specs.Lists.{best_of}

@@ -16,7 +16,7 @@ use Rattle.records.specs.declared.Action.{Action}
 use Rattle.records.proofs.Cases.{lt-or-le, never, both}
 use Rattle.rows.specs.Lists.{All, Rising}
 use Rattle.rows.specs.Moves.{each, each_told, at_first, at_first_told, first_of, count, settled_of, has_id}
-use Rattle.rows.specs.Moves.Turn.{Keeps}
+use Rattle.rows.specs.declared.Turn.TheVariants.{Keeps}
 use Rattle.rows.proofs.Promises.{entries, each-count, first_count}
 use Rattle.tables.specs.Layouts.{unicast_head}
 use Rattle.sending.specs.Types.{Address, Priority, AckKey, Stage, Transmitting, Unicast, TxResult}

@@ -8,7 +8,7 @@ use lib.Dec.{ltb, leb, eqb}
 use Rattle.records.specs.Pick.{pick}
 use Rattle.records.proofs.Cases.{either, never}
 use Rattle.records.specs.Records.{unicast_entry}
-use Rattle.rows.specs.Moves.Turn.{Keeps, Settles}
+use Rattle.rows.specs.declared.Turn.TheVariants.{Keeps, Settles}
 use Rattle.rows.specs.Moves.{Same, any_of}
 use Rattle.tables.specs.Layouts.{unicast_head}
 use Rattle.sending.specs.Types.{Address, Absent, Short, Extended, Confirm, OnHandoff, ApsAck, Stage, Queued, Transmitting, Retrying, AwaitingPoll, AwaitingApsAck, Unicast, TxResult, ApsAckTimeout, Cancelled, Failure, UnicastHead, Due, Leave, Requeue, Finish, Which, Lapsed, Dropped, CopyOf}

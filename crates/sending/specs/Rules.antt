@@ -4,16 +4,10 @@ use Rattle.records.specs.Pick.{pick}
 use Rattle.records.specs.Priorities.{rank_of}
 use Rattle.records.specs.Same.{same_address, same_ack_key}
 use Rattle.records.specs.Times.{sooner}
-use Rattle.rows.specs.Moves.{Turn}
-use Rattle.rows.specs.Moves.Turn.{Keeps, HandsOff, Settles}
+use Rattle.rows.specs.declared.Turn.{Turn}
+use Rattle.rows.specs.declared.Turn.TheVariants.{Keeps, HandsOff, Settles}
 use Rattle.tables.specs.Layouts.{unicast_head}
-use Rattle.sending.specs.Types.{Address, Absent, Short, Extended, Priority, StackCritical, AckKey, Confirm, OnHandoff, ApsAck, Stage, Queued, Transmitting, Retrying, AwaitingPoll, AwaitingApsAck, Unicast, Settings, TxResult, SendFailure, HandoffTimeout, ApsAckTimeout, IndirectExpired, Cancelled, Verdict, Success, Failure, Code, UnicastHead, UnicastTurn, KeepsU, HandsOffU, SettlesU, Due, Leave, Requeue, Finish, Which, Lapsed, Dropped, CopyOf, Sought, Pending, Beside, SentCopy}
-
--- the turn that a rule of the code answers
-abbrev pub turn_u : UnicastTurn → Turn Unicast
-turn_u (KeepsU u) = Keeps u
-turn_u (HandsOffU u) = HandsOff u
-turn_u (SettlesU again v hop) = Settles again v hop
+use Rattle.sending.specs.Types.{Address, Absent, Short, Extended, Priority, StackCritical, AckKey, Confirm, OnHandoff, ApsAck, Stage, Queued, Transmitting, Retrying, AwaitingPoll, AwaitingApsAck, Unicast, Settings, TxResult, SendFailure, HandoffTimeout, ApsAckTimeout, IndirectExpired, Cancelled, Verdict, Success, Failure, Code, UnicastHead, Due, Leave, Requeue, Finish, Which, Lapsed, Dropped, CopyOf, Sought, Pending, Beside, SentCopy}
 
 -- the send with another priority, count of attempts, stage and deadline
 abbrev pub remade_of : Unicast → Priority → ℕ → Stage → ℕ → Unicast

@@ -18,8 +18,6 @@ pub use Rattle.records.specs.declared.Verdict.TheVariants.{Success, Failure, Cod
 pub use Rattle.records.specs.declared.Refusal.{Refusal}
 pub use Rattle.records.specs.declared.Refusal.TheVariants.{NoSuchSend, InTheRadio, NotInTheRadio, OtherFrame}
 pub use Rattle.tables.specs.declared.unicast_rows.UnicastHead.{UnicastHead}
-pub use Rattle.sending.specs.declared.UnicastTurn.{UnicastTurn}
-pub use Rattle.sending.specs.declared.UnicastTurn.TheVariants.{KeepsU, HandsOffU, SettlesU}
 pub use Rattle.sending.specs.declared.Due.{Due}
 pub use Rattle.sending.specs.declared.Due.TheVariants.{Leave, Requeue, Finish}
 pub use Rattle.sending.specs.declared.Which.{Which}

@@ -1,15 +1,7 @@
 // What the rules of unicasts speak of, and no functions: the rules stand in specs/, and what is proved of them alone in proofs/.
 #![tactic(auto)]
 
-use records::{Address, Priority, Refusal, SendFailure, Unicast, Verdict};
-
-// What becomes of one send: it stays, it stays and its handoff is told, or it is settled.
-#[derive(Clone, Copy)]
-pub enum UnicastTurn {
-    KeepsU(Unicast),
-    HandsOffU(Unicast),
-    SettlesU(bool, Verdict, Option<u16>),
-}
+use records::{Address, SendFailure};
 
 // What a sweep makes of one send: nothing, a retry is queued, or it fails, its handoff told again first or not.
 #[derive(Clone, Copy)]

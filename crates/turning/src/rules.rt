@@ -1,13 +1,13 @@
 // The rules on one send: what a call makes of it.
 ghost use Rattle.std.specs.Prelude.{◌≡◌, ◌≤◌};
 ghost use Rattle.records.specs.Limits.{last_time};
-ghost use Rattle.sending.specs.Rules.{turn_u, with_stage, stage_for, sent_by, polled_by, deadline_for, admitted_of, is_queued, is_awaiting, is_sending, is_acking, polled_of, keyed_by, ack_turn, hand_off, fail_held, fail_unheld, fail_by, report_sent, report_turn, cancel_turn};
+ghost use Rattle.sending.specs.Rules.{with_stage, stage_for, sent_by, polled_by, deadline_for, admitted_of, is_queued, is_awaiting, is_sending, is_acking, polled_of, keyed_by, ack_turn, hand_off, fail_held, fail_unheld, fail_by, report_sent, report_turn, cancel_turn};
 
 use records::{
     AckKey, Address, Confirm, Priority, SendFailure, Settings, Stage, TxResult, Unicast, Verdict,
     compare,
 };
-use sending::UnicastTurn;
+use rows::Turn;
 
 pub fn staged(u: Unicast, stage: Stage) -> Unicast
     ensures { result ≡ with_stage u stage }
@@ -127,10 +127,10 @@ pub fn polled(u: Unicast) -> Unicast
     }
 }
 
-pub fn cancel_turn(u: Unicast) -> UnicastTurn
-    ensures { turn_u result ≡ cancel_turn u }
+pub fn cancel_turn(u: Unicast) -> Turn<Unicast>
+    ensures { result ≡ cancel_turn u }
 {
-    UnicastTurn::SettlesU(
+    Turn::Settles(
         is_acking(u.stage),
         Verdict::Failure(SendFailure::Cancelled),
         None,
@@ -150,64 +150,62 @@ pub fn is_keyed(c: Confirm, key: AckKey) -> bool
 }
 
 // In the radio it is marked, and its report settles it.
-pub fn ack_turn(u: Unicast) -> UnicastTurn
-    ensures { turn_u result ≡ ack_turn u }
+pub fn ack_turn(u: Unicast) -> Turn<Unicast>
+    ensures { result ≡ ack_turn u }
 {
     match u.stage {
         Stage::Queued | Stage::Retrying(_) | Stage::AwaitingPoll => {
-            UnicastTurn::SettlesU(false, Verdict::Success, None)
+            Turn::Settles(false, Verdict::Success, None)
         }
-        Stage::Transmitting(_) => UnicastTurn::KeepsU(staged(u, Stage::Transmitting(true))),
-        Stage::AwaitingApsAck => UnicastTurn::SettlesU(true, Verdict::Success, None),
+        Stage::Transmitting(_) => Turn::Keeps(staged(u, Stage::Transmitting(true))),
+        Stage::AwaitingApsAck => Turn::Settles(true, Verdict::Success, None),
     }
 }
 
 // ---- report
 
-fn hand_off(u: Unicast, acked: bool, clock: u64) -> UnicastTurn
+fn hand_off(u: Unicast, acked: bool, clock: u64) -> Turn<Unicast>
     requires { clock ≤ last_time }
-    ensures { turn_u result ≡ hand_off u acked clock }
+    ensures { result ≡ hand_off u acked clock }
 {
     match u.confirm {
-        Confirm::ApsAck(_, wait) if !acked => UnicastTurn::HandsOffU(Unicast {
+        Confirm::ApsAck(_, wait) if !acked => Turn::HandsOff(Unicast {
             stage: Stage::AwaitingApsAck,
             deadline: clock + u64::from(wait),
             ..u
         }),
-        Confirm::OnHandoff | Confirm::ApsAck(..) => {
-            UnicastTurn::SettlesU(false, Verdict::Success, None)
-        }
+        Confirm::OnHandoff | Confirm::ApsAck(..) => Turn::Settles(false, Verdict::Success, None),
     }
 }
 
 // 802.15.4, 6.7.3: a frame is extracted once acknowledged, so a failed one awaits the next poll and keeps its deadline.
-fn fail_held(u: Unicast, code: u16, clock: u64) -> UnicastTurn
-    ensures { turn_u result ≡ fail_held u code clock }
+fn fail_held(u: Unicast, code: u16, clock: u64) -> Turn<Unicast>
+    ensures { result ≡ fail_held u code clock }
 {
     if clock < u.deadline {
-        UnicastTurn::KeepsU(staged(u, Stage::AwaitingPoll))
+        Turn::Keeps(staged(u, Stage::AwaitingPoll))
     } else {
-        UnicastTurn::SettlesU(false, Verdict::Code(code), None)
+        Turn::Settles(false, Verdict::Code(code), None)
     }
 }
 
-fn fail_unheld(u: Unicast, code: u16, clock: u64, delay: u32) -> UnicastTurn
+fn fail_unheld(u: Unicast, code: u16, clock: u64, delay: u32) -> Turn<Unicast>
     requires { clock ≤ last_time }
-    ensures { turn_u result ≡ fail_unheld u code clock delay }
+    ensures { result ≡ fail_unheld u code clock delay }
 {
     if u.attempts_remaining == 0 {
-        return UnicastTurn::SettlesU(false, Verdict::Code(code), Some(u.next_hop));
+        return Turn::Settles(false, Verdict::Code(code), Some(u.next_hop));
     }
-    UnicastTurn::KeepsU(Unicast {
+    Turn::Keeps(Unicast {
         attempts_remaining: u.attempts_remaining - 1,
         stage: Stage::Retrying(clock + u64::from(delay)),
         ..u
     })
 }
 
-fn fail_turn(u: Unicast, code: u16, clock: u64, delay: u32) -> UnicastTurn
+fn fail_turn(u: Unicast, code: u16, clock: u64, delay: u32) -> Turn<Unicast>
     requires { clock ≤ last_time }
-    ensures { turn_u result ≡ fail_by u code clock delay u.poll_address }
+    ensures { result ≡ fail_by u code clock delay u.poll_address }
 {
     match u.poll_address {
         Address::Absent => fail_unheld(u, code, clock, delay),
@@ -215,9 +213,9 @@ fn fail_turn(u: Unicast, code: u16, clock: u64, delay: u32) -> UnicastTurn
     }
 }
 
-fn sent_turn(u: Unicast, acked: bool, res: TxResult, clock: u64, delay: u32) -> UnicastTurn
+fn sent_turn(u: Unicast, acked: bool, res: TxResult, clock: u64, delay: u32) -> Turn<Unicast>
     requires { clock ≤ last_time }
-    ensures { turn_u result ≡ report_sent u acked res clock delay }
+    ensures { result ≡ report_sent u acked res clock delay }
 {
     match res {
         Err(code) if !acked => fail_turn(u, code, clock, delay),
@@ -226,14 +224,14 @@ fn sent_turn(u: Unicast, acked: bool, res: TxResult, clock: u64, delay: u32) -> 
 }
 
 // What a report makes of a send in the radio; any other stays.
-pub fn report_turn(u: Unicast, res: TxResult, clock: u64, delay: u32) -> UnicastTurn
+pub fn report_turn(u: Unicast, res: TxResult, clock: u64, delay: u32) -> Turn<Unicast>
     requires { clock ≤ last_time }
-    ensures { turn_u result ≡ report_turn res clock delay u }
+    ensures { result ≡ report_turn res clock delay u }
 {
     match u.stage {
         Stage::Transmitting(acked) => sent_turn(u, acked, res, clock, delay),
         Stage::Queued | Stage::Retrying(_) | Stage::AwaitingPoll | Stage::AwaitingApsAck => {
-            UnicastTurn::KeepsU(u)
+            Turn::Keeps(u)
         }
     }
 }

@@ -6,7 +6,7 @@ use native.Mathlib.Omega.{arith}
 use mathlib.Core.Path.{◌≡◌, sym, ap, ◌∙◌}
 use mathlib.Core.Bool.{Bool}
 use mathlib.Core.List.{List}
-use Rattle.rows.specs.Moves.{Turn}
+use Rattle.rows.specs.declared.Turn.{Turn}
 use Rattle.actions.proofs.Ones.{OneOutcome, turned-one}
 use Rattle.sending.specs.Types.{Unicast, Refusal}
 use Rattle.unicasts.specs.Calls.{PolledOne, Dequeued, bar_in, AfterCall, Called}

@@ -8,7 +8,8 @@ use mathlib.Core.List.{List}
 use Rattle.records.specs.Records.{unicast_entry, unicast_id}
 use Rattle.records.specs.declared.Entry.{Entry}
 use Rattle.rows.specs.Tables.{Held, Stands}
-use Rattle.rows.specs.Moves.{Turn, first_at, first_of, any_of, has_id}
+use Rattle.rows.specs.Moves.{first_at, first_of, any_of, has_id}
+use Rattle.rows.specs.declared.Turn.{Turn}
 use Rattle.tables.specs.Layouts.{unicast_table}
 use Rattle.actions.specs.Calls.{Played}
 use Rattle.actions.proofs.Sweeps.{turn-found}

@@ -3,7 +3,8 @@ use Rattle.tables.specs.declared.Counts.{Counts}
 use Rattle.std.specs.Prelude.{ℕ, ◌≡◌, Bool, List, Option, None, Some, Result, Ok, Err}
 use Rattle.records.specs.Records.{unicast_entry}
 use Rattle.rows.specs.Tables.{live, Holds}
-use Rattle.rows.specs.Moves.{Turn, first_of, any_of, at_first, has_id}
+use Rattle.rows.specs.Moves.{first_of, any_of, at_first, has_id}
+use Rattle.rows.specs.declared.Turn.{Turn}
 use Rattle.tables.specs.Layouts.{unicast_table}
 use Rattle.actions.specs.Calls.{Turned}
 use Rattle.sending.specs.Types.{Unicast, Refusal}

@@ -4,17 +4,18 @@ ghost use Rattle.records.specs.declared.Stage.TheVariants.{Queued};
 ghost use Rattle.records.specs.Limits.{last_time};
 ghost use Rattle.records.specs.Records.{unicast_entry, blank_unicast};
 ghost use Rattle.rows.specs.Tables.{rows_of, live, Held, Holds, Entered};
-ghost use Rattle.rows.specs.Moves.Turn.{Settles};
+ghost use Rattle.rows.specs.declared.Turn.TheVariants.{Settles};
 ghost use Rattle.rows.specs.Moves.{Same};
 ghost use Rattle.tables.specs.Layouts.{unicast_table};
 ghost use Rattle.actions.specs.Calls.{Swept, Turned, Played};
-ghost use Rattle.sending.specs.Rules.{turn_u, with_stage, keyed, ack_turn, report_turn, cancel_turn, tick_turn, drop_turn, copy_turn, sweep_turn};
+ghost use Rattle.sending.specs.Rules.{with_stage, keyed, ack_turn, report_turn, cancel_turn, tick_turn, drop_turn, copy_turn, sweep_turn};
 ghost use Rattle.sending.specs.Lists.{report_bar, cancel_bar};
 ghost use Rattle.unicasts.specs.Calls.{PolledOne, Dequeued, Called};
 
 use records::{AckKey, Refusal, Stage, TxResult, Unicast, Verdict};
+use rows::Turn;
 use scanning::asks;
-use sending::{Due, UnicastTurn, Which};
+use sending::{Due, Which};
 use tables::{Counts, unicast_rows};
 
 // The send at place i is taken out, and told as over.
@@ -48,21 +49,21 @@ fn play(
     m: usize,
     i: usize,
     u: Unicast,
-    t: UnicastTurn,
+    t: Turn<Unicast>,
 ) -> Counts
     requires held { Held unicast_table w.old n }
     requires i_lt_n { i < n }
     requires u_value { u ≡ get_or (rows_of unicast_table w.old) i blank_unicast }
-    requires same { Same unicast_entry u (turn_u t) }
+    requires same { Same unicast_entry u t }
     requires m_bound { m + 2 ≤ 112 }
-    ensures { Played unicast_table unicast_entry (turn_u t) i u w.old n told.old m w.new result.sends told.new result.told }
+    ensures { Played unicast_table unicast_entry t i u w.old n told.old m w.new result.sends told.new result.told }
 {
     match t {
-        UnicastTurn::KeepsU(v) => {
+        Turn::Keeps(v) => {
             tables::store(w, n, i, v);
             Counts { sends: n, told: m }
         }
-        UnicastTurn::HandsOffU(v) => {
+        Turn::HandsOff(v) => {
             let e = records::blanks::unicast_entry(u);
             let next = actions::hand_off(told, m, e);
             tables::store(w, n, i, v);
@@ -71,7 +72,7 @@ fn play(
                 told: next,
             }
         }
-        UnicastTurn::SettlesU(again, v, hop) => {
+        Turn::Settles(again, v, hop) => {
             let next = finish(w, n, told, m, i, again, v, hop);
             Counts {
                 sends: n - 1,

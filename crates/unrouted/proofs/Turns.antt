@@ -9,7 +9,7 @@ use lib.ListN.{get_or}
 use Rattle.records.specs.Pick.{pick, bit}
 use Rattle.records.specs.Records.{blank_unrouted}
 use Rattle.rows.specs.Tables.{rows_of}
-use Rattle.rows.specs.Moves.Turn.{Keeps, Settles}
+use Rattle.rows.specs.declared.Turn.TheVariants.{Keeps, Settles}
 use Rattle.tables.specs.Layouts.{unrouted_head, unrouted_table}
 use Rattle.unrouted.specs.Types.{Unrouted, UnroutedHead, SendFailure, Failure, Which}
 use Rattle.unrouted.specs.Rules.{chosen_head, chosen, failure_of, sweep_turn}

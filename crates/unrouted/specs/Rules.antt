@@ -5,8 +5,9 @@ use Rattle.records.specs.Limits.{unrouted_room, destination_room}
 use Rattle.records.specs.Records.{unrouted_id, destination_address}
 use Rattle.records.specs.Times.{sooner}
 use Rattle.rows.specs.Lists.{fold, insert_by, lookup}
-use Rattle.rows.specs.Moves.{Turn, at_first, any_of, first_of}
-use Rattle.rows.specs.Moves.Turn.{Keeps, Settles}
+use Rattle.rows.specs.Moves.{at_first, any_of, first_of}
+use Rattle.rows.specs.declared.Turn.{Turn}
+use Rattle.rows.specs.declared.Turn.TheVariants.{Keeps, Settles}
 use Rattle.tables.specs.Layouts.{unrouted_head}
 use Rattle.unrouted.specs.Types.{Priority, Confirm, Unrouted, UnroutedHead, Destination, SendFailure, HandoffTimeout, RouteDiscoveryTimeout, Cancelled, Failure, Which, Lapsed, Bound, Retry, NotHeld, Declined, Granted}
 

@@ -9,7 +9,7 @@ ghost use Rattle.records.specs.declared.Verdict.TheVariants.{Failure};
 ghost use Rattle.rows.specs.Lists.{insert_by};
 ghost use Rattle.rows.specs.Tables.{rows_of, live, Held, Holds};
 ghost use Rattle.rows.specs.Moves.{first_at, any_of, count, has_id};
-ghost use Rattle.rows.specs.Moves.Turn.{Settles};
+ghost use Rattle.rows.specs.declared.Turn.TheVariants.{Settles};
 ghost use Rattle.tables.specs.Layouts.{unrouted_table, destination_table};
 ghost use Rattle.actions.specs.Calls.{Swept, Turned, Played};
 ghost use Rattle.unrouted.specs.Rules.{admitted_of, chosen_head, failure_of, sweep_turn, cancel_turn, goes_to, left_to, left_head, wake_of, is_held, newly_held};

@@ -6,8 +6,9 @@ use lib.Dec.{eqb}
 use Rattle.records.specs.Records.{blank_destination, destination_address}
 use Rattle.records.specs.declared.Destination.{Destination}
 use Rattle.rows.specs.Tables.{live}
-use Rattle.rows.specs.Moves.{Turn, placed}
-use Rattle.rows.specs.Moves.Turn.{Keeps}
+use Rattle.rows.specs.Moves.{placed}
+use Rattle.rows.specs.declared.Turn.{Turn}
+use Rattle.rows.specs.declared.Turn.TheVariants.{Keeps}
 use Rattle.tables.specs.Layouts.{unrouted_table, destination_table}
 use Rattle.rows.proofs.Promises.{hit-lt, hit-lookup, miss-lookup, held_at, held-holds, find_first, first_found}
 use Rattle.unrouted.proofs.Lists.{not-held, none_left, none-waits, spends}

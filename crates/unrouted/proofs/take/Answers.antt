@@ -4,7 +4,7 @@ use native.Mathlib.Omega.{arith}
 use mathlib.Core.Path.{refl, sym, ap, ◌∙◌}
 use Rattle.records.specs.Records.{blank_unrouted}
 use Rattle.rows.specs.Tables.{live}
-use Rattle.rows.specs.Moves.Turn.{Keeps}
+use Rattle.rows.specs.declared.Turn.TheVariants.{Keeps}
 use Rattle.tables.specs.Layouts.{unrouted_table}
 use Rattle.unrouted.specs.Rules.{goes_to, took_of}
 use Rattle.rows.proofs.Promises.{held-length, held_at, first_found, first-missed}
