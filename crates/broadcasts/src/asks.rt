@@ -9,7 +9,7 @@ ghost use Rattle.casting.specs.Rules.{best_head, best_of, may_stir, wake_of, is_
 
 use casting::heads;
 use records::priorities::rank;
-use records::{Broadcast, CopyState};
+use records::{Broadcast, CopyState, QuorumKey};
 use repeating::turns;
 use tables::broadcast_rows;
 

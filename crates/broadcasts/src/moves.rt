@@ -80,14 +80,10 @@ pub fn dequeue(w: &mut [u64; 112], n: usize, id: u32) -> Option<u32>
     requires { Held broadcast_table w.old n }
     ensures { Dequeued id w.old n w.new result }
 {
-    match tables::find::<Broadcast>(w, n, id) {
-        None => None,
-        Some(i) => {
-            let u = tables::load::<Broadcast>(w, i);
-            tables::store(w, n, i, turns::dequeued(u));
-            Some(u.frame)
-        }
-    }
+    let i = tables::find::<Broadcast>(w, n, id)?;
+    let u = tables::load::<Broadcast>(w, i);
+    tables::store(w, n, i, turns::dequeued(u));
+    Some(u.frame)
 }
 
 // The radio reports on the copy of the broadcast with that id.
@@ -153,10 +149,7 @@ pub fn first_keyed(w: &[u64; 112], n: usize, key: QuorumKey) -> Option<usize>
     requires { Held broadcast_table w.now n }
     ensures { result ≡ first_at (keyed key) (live broadcast_table w.now n) }
 {
-    match (0..n).find(|i| heads::is_keyed(broadcast_rows::schedule(w, *i), key)) {
-        Some(i) => Some(i),
-        None => None,
-    }
+    (0..n).find(|i| heads::is_keyed(broadcast_rows::schedule(w, *i), key))
 }
 
 // The quorum for that key was heard.

@@ -178,9 +178,9 @@ module _ {m : Model} (s : SoundModel m) where
   lends-unicast i =
       record { sum = λ p. omega (arith, unc.dequeue-count p m.unicasts i); said = go (unis.loan_of i m.unicasts); next = refl }
     where
-      go : (l : Option (ℕ × (ℕ × Bool))) → id_said (flight_of i l) ≡ []
+      go : (l : Option (ℕ × ℕ × Bool)) → id_said (flight_of i l) ≡ []
       go None = refl
-      go (Some (f, (h, n))) = refl
+      go (Some (f, h, n)) = refl
 
   lends-broadcast : (i : ℕ) → Even m (lend_broadcast m i)
   lends-broadcast i =

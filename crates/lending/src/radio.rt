@@ -8,7 +8,7 @@ ghost use Rattle.lending.specs.Choices.{chosen_of};
 
 use broadcasts::moves;
 use model::{Answer, Counts, Did, Lender, Transmit};
-use records::{Refusal, TxResult, priorities};
+use records::{Priority, Refusal, TxResult, priorities};
 use unicasts::calls;
 
 // The send that goes to the radio, if one does.

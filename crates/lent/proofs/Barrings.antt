@@ -17,6 +17,7 @@ use Rattle.casting.specs.Rules.{in_radio, cancel_bar}
 use Rattle.model.specs.Model.{Effect, lent_model, SoundTables, Does}
 use Rattle.model.specs.Calls.{unless, cast_bar}
 use Rattle.doing.specs.Types.{Unicast, Broadcast, Refusal, Counts, Did}
+use Rattle.tables.specs.declared.Counts as left
 use Rattle.doing.specs.Parts.{denied_by}
 use Rattle.doing.proofs.Doings.{does-deny}
 
@@ -27,18 +28,18 @@ module _ {c : Counts} {ws vs ds bs : List ℕ} (s : SoundTables c ws vs ds bs) w
   does-barred e x p q b t d = rw (p, q, b, t) (does-deny s x d)
 
 -- what a call on a broadcast ensures, once its answer is known
-module _ {bar : Option Broadcast → Option Refusal} {f : Broadcast → Turn Broadcast} {id : ℕ} {bs buf bs' buf' : List ℕ} {n m : ℕ} {o : Result Counts Refusal}
+module _ {bar : Option Broadcast → Option Refusal} {f : Broadcast → Turn Broadcast} {id : ℕ} {bs buf bs' buf' : List ℕ} {n m : ℕ} {o : Result left.Counts Refusal}
     (h : Answered id bar f bs n buf m bs' buf' o) where
-  pub answered-as : (x : Result Counts Refusal) → o ≡ x → Answered id bar f bs n buf m bs' buf' x
-  answered-as x e = subst (λ (y : Result Counts Refusal). Answered id bar f bs n buf m bs' buf' y) e h
+  pub answered-as : (x : Result left.Counts Refusal) → o ≡ x → Answered id bar f bs n buf m bs' buf' x
+  answered-as x e = subst (λ (y : Result left.Counts Refusal). Answered id bar f bs n buf m bs' buf' y) e h
 
 -- whether a search found a record is whether there is one
 module _ {A : Type 0} (key : A → ℕ) (k : ℕ) (xs : List A) {p : Option ℕ} (e : p ≡ find_by key k xs) where
   pub found-any : (d : A) (i : ℕ) → p ≡ Some i → any_of (λ (x : A). eqb (key x) k) xs ≡ true
-  found-any d i h = (first_found (λ (x : A). eqb (key x) k) Keeps d xs i (sym (find_first key k xs) ∙ (sym e)) ∙ h).any
+  found-any d i h = (first_found (λ (x : A). eqb (key x) k) Keeps d xs i (sym (find_first key k xs) ∙ (sym e ∙ h))).any
 
   pub missed-any : p ≡ None → any_of (λ (x : A). eqb (key x) k) xs ≡ false
-  missed-any h = (first-missed (λ (x : A). eqb (key x) k) Keeps xs (sym (find_first key k xs) ∙ (sym e)) ∙ h).any
+  missed-any h = (first-missed (λ (x : A). eqb (key x) k) Keeps xs (sym (find_first key k xs) ∙ (sym e ∙ h))).any
 
 -- a copy in the radio bars a cancel of the broadcast, where there is one; without one its own stage decides
 pub cast-sent : (id : ℕ) (us : List Unicast) (b : Broadcast) → any_of (sent_copy id) us ≡ true → cast_bar id us (Some b) ≡ Some InTheRadio

@@ -11,7 +11,7 @@ ghost use Rattle.doing.specs.Parts.{Listed};
 ghost use Rattle.lent.specs.Fills.{Filled, Matching};
 
 use broadcasts::asks;
-use records::{Broadcast, Entry, Unicast, Unrouted, blanks};
+use records::{Broadcast, Entry, QuorumKey, Unicast, Unrouted, blanks};
 use scanning::sets;
 use sending::Book;
 

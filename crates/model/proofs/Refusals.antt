@@ -103,9 +103,9 @@ module _ (m : Model) where
   unicast-lends : (i : ℕ) → denied_in (lend_unicast m i).answer ≡ None
   unicast-lends i = go (unis.loan_of i m.unicasts)
     where
-      go : (l : Option (ℕ × (ℕ × Bool))) → denied_in (flight_of i l) ≡ None
+      go : (l : Option (ℕ × ℕ × Bool)) → denied_in (flight_of i l) ≡ None
       go None = refl
-      go (Some (f, (h, p))) = refl
+      go (Some (f, h, p)) = refl
 
   broadcast-lends : (i : ℕ) → denied_in (lend_broadcast m i).answer ≡ None
   broadcast-lends i = go (bro.lent_of (lookup broadcast_id i m.broadcasts))

@@ -88,9 +88,9 @@ turn_broadcast m q f = done (with_broadcasts m (at_first q f m.broadcasts)) (at_
 -- ---- the radio
 
 -- the unicast, or the broadcast, with that id is lent to the radio
-abbrev pub flight_of : ℕ → Option (ℕ × (ℕ × Bool)) → Answer
+abbrev pub flight_of : ℕ → Option (ℕ × ℕ × Bool) → Answer
 flight_of i None = NothingQueued
-flight_of i (Some (frame, (hop, pending))) = InFlight i frame (Unicasting hop pending)
+flight_of i (Some (frame, hop, pending)) = InFlight i frame (Unicasting hop pending)
 
 abbrev pub lend_unicast : Model → ℕ → Effect
 lend_unicast m i =

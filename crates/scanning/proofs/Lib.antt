@@ -1,3 +1,2 @@
 pub mod Scans
-mod Chains
 mod Maps

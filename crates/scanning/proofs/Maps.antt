@@ -1,12 +1,12 @@
 -- What the chains over the address map answer. Assumes nothing.
 use Prim.Native.Nat.{ℕ, zero, suc, ◌+◌, ◌<◌}
 use native.Mathlib.Omega.{arith}
-use mathlib.Core.Path.{◌≡◌, refl, sym, ap, ◌∙◌}
+use mathlib.Core.Path.{◌≡◌, refl, ap, ◌∙◌}
 use mathlib.Core.Bool.{Bool, true, false, cond}
 use mathlib.Core.List.{List, [], ◌∷◌}
 use lib.Dec.{ltb, eqb}
 use lib.ListN.{length, get_or}
-use Rattle.std.proofs.Common.{Option, Some, None, option_map, MatchOption, Iter}
+use Rattle.std.proofs.Common.{Option, Some, None, option_map, MatchOption, IsSomeAnd, Iter}
 use Rattle.std.specs.declared.iter.Zip.{Zip}
 use Rattle.std.specs.Bool.{⊤}
 use Rattle.std.specs.Fn.{CalledAt}
@@ -57,14 +57,20 @@ short_of (Some p) = Some p.1
 abbrev pub read : Bor ℕ × Bor ℕ → ℕ × ℕ
 read p = (p.0.now, p.1.now)
 
+-- what `map` makes of the pair
+pub short-is : {P : Bor ℕ × Bor ℕ → ℕ → Type 0} (r : Option (Bor ℕ × Bor ℕ)) (s : Option ℕ) → MatchOption r (s ≡ None) (λ x. IsSomeAnd s (P x)) → ((x : Bor ℕ × Bor ℕ) (y : ℕ) → P x y → y ≡ x.1.now)
+    → s ≡ short_of (option_map read r)
+short-is None s e call = e
+short-is (Some x) None e call = absurd e
+short-is (Some x) (Some y) e call = ap Some (call x y e)
+
 -- a chain that looks for x among the pairs
-pub mapped-is : {F : Type 0} {g : Mut F (Bor (Bor ℕ × Bor ℕ) × Unit {0}) Bool} {fn : F} {s : Zip (Iter ℕ) (Iter ℕ)} {r o : Option (Bor ℕ × Bor ℕ)} (u : Zip (Iter ℕ) (Iter ℕ)) (x : ℕ) (es ns : List ℕ)
+pub mapped-is : {F : Type 0} {g : Mut F (Bor (Bor ℕ × Bor ℕ) × Unit {0}) Bool} {fn : F} {s : Zip (Iter ℕ) (Iter ℕ)} (r : Option (Bor ℕ × Bor ℕ)) (u : Zip (Iter ℕ) (Iter ℕ)) (x : ℕ) (es ns : List ℕ)
     → iter_rest (zip_first s) ≡ es → iter_rest (zip_second s) ≡ ns
     → (xs : List (Bor ℕ × Bor ℕ)) × (j : F) × YieldsThen (zips fronts fronts) s xs r u × FoldsTo (λ p y k. CalledAt g p y false k) fn xs j × MatchOption r ⊤ (λ y. (k : F) × CalledAt g j y true k)
-    → ((y : Bor ℕ × Bor ℕ) (b : Bool) (k : F) → CalledAt g fn y b k → (k ≡ fn) × (b ≡ eqb y.0.now x)) → r ≡ o → short_of (option_map read o) ≡ mapped_in x es ns
-mapped-is u x es ns e f ran call k =
-    ap (λ (o : Option (Bor ℕ × Bor ℕ)). short_of (option_map read o)) (sym k)
-    ∙ ap short_of (find_from_yields_List (λ p. eqb p.0 x) u _ _ ran (YieldsList-from_zip (YieldsList-from_slice es e) (YieldsList-from_slice ns f)) call) ∙ same es ns
+    → ((y : Bor ℕ × Bor ℕ) (b : Bool) (k : F) → CalledAt g fn y b k → (k ≡ fn) × (b ≡ eqb y.0.now x)) → short_of (option_map read r) ≡ mapped_in x es ns
+mapped-is r u x es ns e f ran call =
+    ap short_of (find_from_yields_List (λ p. eqb p.0 x) u _ _ ran (YieldsList-from_zip (YieldsList-from_slice es e) (YieldsList-from_slice ns f)) call) ∙ same es ns
   where
     same : (es ns : List ℕ) → short_of (find (λ p. eqb p.0 x) (zip es ns)) ≡ mapped_in x es ns
     same [] ns = refl

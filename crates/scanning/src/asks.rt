@@ -17,10 +17,7 @@ pub fn first_keyed(w: &[u64; 320], n: usize, key: AckKey) -> Option<usize>
     requires { Held unicast_table w.now n }
     ensures { result ≡ first_at (keyed key) (live unicast_table w.now n) }
 {
-    match (0..n).find(|i| turning::rules::is_keyed(unicast_rows::confirm(w, *i), key)) {
-        Some(i) => Some(i),
-        None => None,
-    }
+    (0..n).find(|i| turning::rules::is_keyed(unicast_rows::confirm(w, *i), key))
 }
 
 // Whether the send at a place awaits a poll of the device with these addresses.
@@ -44,10 +41,7 @@ pub fn first_awaited(
     requires { Held unicast_table w.now n }
     ensures { result ≡ first_at (awaits eui nwk clock) (live unicast_table w.now n) }
 {
-    match (0..n).find(|at| awaited_at(w, *at, eui, nwk, clock)) {
-        Some(at) => Some(at),
-        None => None,
-    }
+    (0..n).find(|at| awaited_at(w, *at, eui, nwk, clock))
 }
 
 // Whether a tick may change the send at a place.

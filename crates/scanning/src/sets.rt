@@ -26,10 +26,10 @@ pub fn map_fits(eui: &[u64], nwk: &[u16]) -> bool
 fn mapped(eui: &[u64], nwk: &[u16], x: u64) -> Option<u64>
     ensures { result ≡ mapped_in x eui.now nwk.now }
 {
-    match eui.iter().zip(nwk).find(|(e, _)| **e == x) {
-        Some((_, short)) => Some(u64::from(*short)),
-        None => None,
-    }
+    eui.iter()
+        .zip(nwk)
+        .find(|(e, _)| **e == x)
+        .map(|(_, short)| u64::from(*short))
 }
 
 // What a send puts into a set.
@@ -95,8 +95,5 @@ pub fn source_match(
     if !map_fits(eui, nwk) {
         return Err(Refusal::MapMalformed);
     }
-    match next_member(w, n, book, eui, nwk, last) {
-        None => Ok(None),
-        Some(x) => Ok(Some(x)),
-    }
+    Ok(next_member(w, n, book, eui, nwk, last))
 }

@@ -24,11 +24,11 @@ abbrev pub wake_of : List Unicast → Option ℕ
 wake_of us = fold wake_step None us
 
 -- what goes to the radio: the frame of the send i, its next hop, and whether another frame is pending for its address
-abbrev pub loan_by : ℕ → List Unicast → Option Unicast → Option (ℕ × (ℕ × Bool))
+abbrev pub loan_by : ℕ → List Unicast → Option Unicast → Option (ℕ × ℕ × Bool)
 loan_by i us None = None
-loan_by i us (Some u) = Some (u.frame, (u.next_hop, (any_of (beside i u.poll_address) us)))
+loan_by i us (Some u) = Some (u.frame, u.next_hop, any_of (beside i u.poll_address) us)
 
-abbrev pub loan_of : ℕ → List Unicast → Option (ℕ × (ℕ × Bool))
+abbrev pub loan_of : ℕ → List Unicast → Option (ℕ × ℕ × Bool)
 loan_of i us = loan_by i us (first_of (has_id unicast_entry i) us)
 
 -- a report is refused: 5 where no send has the id, then 7 where it is not in the radio, then 8 where it has another frame

@@ -15,7 +15,7 @@ module _ {ws ws₁ ws₂ : List ℕ} {n : ℕ} where
   pub polled-one : {eui : Option ℕ} {nwk : Option ℕ} {now : ℕ} {r₁ r₂ : Bool} → PolledOne eui nwk now ws n ws₁ r₁ → PolledOne eui nwk now ws n ws₂ r₂ → (ws₁ ≡ ws₂) × (r₁ ≡ r₂)
   polled-one p q = (p.table.is ∙ sym q.table.is, p.answer ∙ sym q.answer)
 
-  pub dequeued-one : {id : ℕ} {r₁ r₂ : Option (ℕ × (ℕ × Bool))} → Dequeued id ws n ws₁ r₁ → Dequeued id ws n ws₂ r₂ → (ws₁ ≡ ws₂) × (r₁ ≡ r₂)
+  pub dequeued-one : {id : ℕ} {r₁ r₂ : Option (ℕ × ℕ × Bool)} → Dequeued id ws n ws₁ r₁ → Dequeued id ws n ws₂ r₂ → (ws₁ ≡ ws₂) × (r₁ ≡ r₂)
   dequeued-one p q = (p.table.is ∙ sym q.table.is, p.answer ∙ sym q.answer)
 
   pub called-one : {bar : Option Unicast → Option Refusal} {f : Unicast → Turn Unicast} {id m : ℕ} {buf buf₁ buf₂ : List ℕ} {r₁ r₂ : Result Counts Refusal}

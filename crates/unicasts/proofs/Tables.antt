@@ -62,6 +62,6 @@ done {bar} {f} {id} h i e q p =
 -- ---- a loan
 
 pub lent_is : (id : ℕ) (us : List Unicast) {o : Option Unicast} {u v : Unicast} {b : Bool} → o ≡ Some v → u ≡ v → b ≡ any_of (beside id u.poll_address) us
-    → Some (u.frame, (u.next_hop, b)) ≡ loan_by id us o
+    → Some (u.frame, u.next_hop, b) ≡ loan_by id us o
 lent_is id us {o} {u} {v} {b} e p q =
-    ap (λ (c : Bool). Some (u.frame, (u.next_hop, c))) q ∙ ap (λ (x : Unicast). loan_by id us (Some x)) p ∙ ap (loan_by id us) (sym e)
+    ap (λ (c : Bool). Some (u.frame, u.next_hop, c)) q ∙ ap (λ (x : Unicast). loan_by id us (Some x)) p ∙ ap (loan_by id us) (sym e)

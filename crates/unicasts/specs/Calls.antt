@@ -16,7 +16,7 @@ pub record PolledOne (eui : Option ℕ) (nwk : Option ℕ) (now : ℕ) (ws : Lis
   pub table : Holds unicast_table ws' n (at_first (awaits eui nwk now) poll_turn (live unicast_table ws n))
 
 -- the send with that id is lent to the radio
-pub record Dequeued (id : ℕ) (ws : List ℕ) (n : ℕ) (ws' : List ℕ) (r : Option (ℕ × (ℕ × Bool))) : Type 0 where
+pub record Dequeued (id : ℕ) (ws : List ℕ) (n : ℕ) (ws' : List ℕ) (r : Option (ℕ × ℕ × Bool)) : Type 0 where
   pub answer : r ≡ loan_of id (live unicast_table ws n)
   pub table : Holds unicast_table ws' n (at_first (has_id unicast_entry id) lend_turn (live unicast_table ws n))
 

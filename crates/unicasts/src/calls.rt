@@ -15,8 +15,7 @@ ghost use Rattle.unicasts.specs.Calls.{PolledOne, Dequeued, Called};
 use records::{AckKey, Refusal, Stage, TxResult, Unicast, Verdict};
 use scanning::asks;
 use sending::{Due, UnicastTurn, Which};
-use tables::Counts;
-use tables::unicast_rows;
+use tables::{Counts, unicast_rows};
 
 // The send at place i is taken out, and told as over.
 fn finish(
@@ -109,9 +108,7 @@ pub fn dequeue(w: &mut [u64; 320], n: usize, id: u32) -> Option<(u32, u16, bool)
     requires { Held unicast_table w.old n }
     ensures { Dequeued id w.old n w.new result }
 {
-    let Some(i) = tables::find::<Unicast>(w, n, id) else {
-        return None;
-    };
+    let i = tables::find::<Unicast>(w, n, id)?;
     let u = tables::load::<Unicast>(w, i);
     let pending = asks::frame_pending(w, n, id, u.poll_address);
     let v = turning::rules::staged(u, Stage::Transmitting(false));
@@ -161,12 +158,17 @@ pub fn report(
         return Err(Refusal::OtherFrame);
     }
     let t = turning::rules::report_turn(u, res, clock, delay);
-    let c = play(w, n, told, m, i, u, t);
-    Ok(c)
+    Ok(play(w, n, told, m, i, u, t))
 }
 
 // The send with that id is settled as cancelled: refused where there is none, or it is in the radio.
-pub fn cancel(w: &mut [u64; 320], n: usize, told: &mut [u64; 560], m: usize, id: u32) -> Result<Counts, Refusal>
+pub fn cancel(
+    w: &mut [u64; 320],
+    n: usize,
+    told: &mut [u64; 560],
+    m: usize,
+    id: u32,
+) -> Result<Counts, Refusal>
     requires held { Held unicast_table w.old n }
     requires m_bound { m + 2 ≤ 112 }
     ensures { Called cancel_bar cancel_turn id w.old n told.old m w.new told.new result }
@@ -179,8 +181,7 @@ pub fn cancel(w: &mut [u64; 320], n: usize, told: &mut [u64; 560], m: usize, id:
         return Err(Refusal::InTheRadio);
     }
     let t = turning::rules::cancel_turn(u);
-    let c = play(w, n, told, m, i, u, t);
-    Ok(c)
+    Ok(play(w, n, told, m, i, u, t))
 }
 
 // The retry at place i is queued.
@@ -202,7 +203,7 @@ fn sweep(w: &mut [u64; 320], sends: usize, told: &mut [u64; 560], at: usize, whi
 {
     let mut n = sends;
     let mut m = at;
-    let mut i: usize = 0;
+    let mut i = 0;
     // A `while`, since a send that is taken out leaves the next one at its place.
     while i < n {
         match asking::rules::due_of(unicast_rows::head(w, i), which) {

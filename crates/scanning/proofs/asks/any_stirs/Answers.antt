@@ -1,6 +1,6 @@
 use Rattle.std.proofs.Common.{rules}
 use Rattle.sending.specs.Rules.{stirs}
-use Rattle.scanning.proofs.Chains.{any-is}
+use Rattle.rows.proofs.Chains.{any-is}
 use Rattle.scanning.proofs.asks.any_stirs.Goals as goal
 
 pub returns : goal.returns

@@ -29,10 +29,10 @@ returns c =
     let h = c.requires.held in
     let e = find-here c.args.w.now c.args.n c.args.id _ c.find.ensures c.in-Some.is in
     done h _ e (cancel-idle (row_at c.args.w.now _) (sending-row c.load-u.ensures c.is_sending.ensures c.if-is_sending.false))
-    (played-as (c.cancel_turn-t.ensures ∙ ap cancel_turn c.load-u.ensures) c.load-u.ensures c.play-c.ensures)
+    (played-as (c.cancel_turn-t.ensures ∙ ap cancel_turn c.load-u.ensures) c.load-u.ensures c.play.ensures)
 
-pub play-c-requires-clause-i_lt_n : goal.play-c-requires-clause-i_lt_n
-play-c-requires-clause-i_lt_n c =
+pub play-requires-clause-i_lt_n : goal.play-requires-clause-i_lt_n
+play-requires-clause-i_lt_n c =
     let h = c.requires.held in
     let e = find-here c.args.w.now c.args.n c.args.id _ c.find.ensures c.in-Some.is in
     first-lt h (has_id unicast_entry c.args.id) _ e

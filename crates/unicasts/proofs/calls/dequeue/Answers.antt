@@ -6,27 +6,27 @@ use Rattle.scanning.proofs.Scans.{sends, find-here, find-nowhere, first-room, fi
 use Rattle.unicasts.proofs.Tables.{stands, lent_is}
 use Rattle.rows.specs.Moves.{has_id}
 use Rattle.records.specs.Records.{unicast_entry}
-use mathlib.Core.Path.{ap, sym, ◌∙◌}
+use mathlib.Core.Path.{refl, ap, sym, ◌∙◌}
 use Rattle.unicasts.proofs.calls.dequeue.Goals as goal
 
 pub load-u-requires-clause-there : goal.load-u-requires-clause-there
 load-u-requires-clause-there c =
     let h = c.requires in
-    let e = find-here c.args.w.now c.args.n c.args.id _ c.find.ensures c.in-Some.is in
+    let e = find-here c.args.w.now c.args.n c.args.id _ c.in_ok-i.ensures refl in
     first-room h (has_id unicast_entry c.args.id) _ e
 
-pub returns-in_default : goal.returns-in_default
-returns-in_default c =
-    let e = find-nowhere c.args.w.now c.args.n c.args.id c.find.ensures c.in_default.is in
-    record {
+pub returns-in_err-i : goal.returns-in_err-i
+returns-in_err-i c =
+    let e = find-nowhere c.args.w.now c.args.n c.args.id c.in_err-i.ensures refl in
+    rw c.from_residual.ensures (record {
       answer = sym (ap (loan_by c.args.id (sends c.args.w.now c.args.n)) (first-none c.requires (has_id unicast_entry c.args.id) e));
       table = first-stays c.requires (has_id unicast_entry c.args.id) lend_turn e;
-    }
+    })
 
 pub returns : goal.returns
 returns c =
     let h = c.requires in
-    let e = find-here c.args.w.now c.args.n c.args.id _ c.find.ensures c.in-Some.is in
+    let e = find-here c.args.w.now c.args.n c.args.id _ c.in_ok-i.ensures refl in
     record {
       answer = lent_is c.args.id (sends c.args.w.now c.args.n) (first-row h (has_id unicast_entry c.args.id) _ e) c.load-u.ensures c.frame_pending-pending.ensures;
       table = first-stored h (has_id unicast_entry c.args.id) (λ (u : Unicast). with_stage u (Transmitting false)) _ e
@@ -36,5 +36,5 @@ returns c =
 pub store-requires-clause-stands : goal.store-requires-clause-stands
 store-requires-clause-stands c =
     let h = c.requires in
-    let e = find-here c.args.w.now c.args.n c.args.id _ c.find.ensures c.in-Some.is in
+    let e = find-here c.args.w.now c.args.n c.args.id _ c.in_ok-i.ensures refl in
     stands (first-lt h (has_id unicast_entry c.args.id) _ e) c.load-u.ensures (ap unicast_entry c.staged-v.ensures)

@@ -19,7 +19,7 @@ returns c =
     let h = c.requires.held in
     let e = find-here c.args.w.now c.args.n c.args.id _ c.find.ensures c.in-Some.is in
     done h _ e (report-frame c.args.frame (row_at c.args.w.now _) (sending-row c.load-u.ensures c.is_sending.ensures c.if-not-is_sending.false) c.load-u.ensures c.if-u-frame.false)
-    (played-as (c.report_turn-t.ensures ∙ ap (report_turn c.args.res c.args.clock c.args.delay) c.load-u.ensures) c.load-u.ensures c.play-c.ensures)
+    (played-as (c.report_turn-t.ensures ∙ ap (report_turn c.args.res c.args.clock c.args.delay) c.load-u.ensures) c.load-u.ensures c.play.ensures)
 
 pub returns-then-u-frame : goal.returns-then-u-frame
 returns-then-u-frame c =
@@ -37,8 +37,8 @@ returns-then-not-is_sending c =
     let e = find-here c.args.w.now c.args.n c.args.id _ c.find.ensures c.in-Some.is in
     refused NotInTheRadio (first-row h (has_id unicast_entry c.args.id) _ e) (report-idle c.args.frame (row_at c.args.w.now _) (sending-row c.load-u.ensures c.is_sending.ensures c.if-not-is_sending.true))
 
-pub play-c-requires-clause-i_lt_n : goal.play-c-requires-clause-i_lt_n
-play-c-requires-clause-i_lt_n c =
+pub play-requires-clause-i_lt_n : goal.play-requires-clause-i_lt_n
+play-requires-clause-i_lt_n c =
     let h = c.requires.held in
     let e = find-here c.args.w.now c.args.n c.args.id _ c.find.ensures c.in-Some.is in
     first-lt h (has_id unicast_entry c.args.id) _ e
