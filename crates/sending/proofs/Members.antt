@@ -1,16 +1,12 @@
--- How the code's loops read the address map, and what the next member of a source-match set is. Assumes nothing.
+-- What the next member of a source-match set is. Assumes nothing.
 use Rattle.std.specs.Prelude.{Option, None, Some}
-use Prim.Native.Nat.{ℕ, ◌+◌, ◌<◌, ◌≤◌}
-use native.Mathlib.Numerals.{add-one}
+use Prim.Native.Nat.{ℕ, ◌<◌, ◌≤◌}
 use native.Mathlib.Omega.{arith}
-use mathlib.Core.Path.{◌≡◌, refl, sym, ap, ap₂, ◌∙◌, subst}
+use mathlib.Core.Path.{◌≡◌, refl, sym, ap, ◌∙◌, subst}
 use mathlib.Core.Bool.{Bool, true, false}
 use mathlib.Core.List.{List, [], ◌∷◌}
 use mathlib.Core.Logic.{inl, inr, ⊎_elim}
-use lib.ListN.{length, drop, get_or, drop_of_length-le}
-use lib.Seq.{drop-cons}
-use lib.Dec.{ltb, eqb}
-use borrow.Author.Tests.{lt-ltb, le-ltb, eq-eqb, ne_eqb, le-leb, lt-leb}
+use borrow.Author.Tests.{le-leb, lt-leb}
 use Rattle.records.specs.Pick.{pick}
 use Rattle.records.specs.Times.{sooner}
 use Rattle.records.proofs.Cases.{lt-or-le, never}
@@ -20,61 +16,7 @@ use Rattle.sending.specs.Claims.{IsNext, wake_at}
 use Rattle.sending.specs.Rules.{wake_by}
 use Rattle.sending.specs.Lists.{wake_step, wake_of}
 use Rattle.sending.proofs.Claims.{all_map}
-use Rattle.sending.specs.Members.{rises_after, rises_all, mapped_in, member_of, is_past, least_with, least_step, least_of, next_member}
-
--- what is left from place i on
-left-cons : (xs : List ℕ) (i : ℕ) → i < length xs → drop i xs ≡ get_or xs i 0 ∷ drop (i + 1) xs
-left-cons xs i h = drop-cons xs i 0 h ∙ ap (λ (j : ℕ). get_or xs i 0 ∷ drop j xs) (sym (add-one i))
-
--- ---- the extended addresses rise
-
-module _ (es : List ℕ) where
-  pub rises-none : length es ≡ 0 → true ≡ rises_all es
-  rises-none e = go es e
-    where
-      go : (xs : List ℕ) → length xs ≡ 0 → true ≡ rises_all xs
-      go [] e = refl
-      go (x ∷ xs) e = absurd (omega arith)
-
-  pub rises-start : (length es ≡ 0 → ⊥) → rises_after (get_or es 0 0) (drop 1 es) ≡ rises_all es
-  rises-start n = go es n
-    where
-      go : (xs : List ℕ) → (length xs ≡ 0 → ⊥) → rises_after (get_or xs 0 0) (drop 1 xs) ≡ rises_all xs
-      go [] n = absurd (n refl)
-      go (x ∷ xs) n = refl
-
-  module _ (i last : ℕ) {r : Bool} (inv : rises_after last (drop i es) ≡ r) where
-    turn : i < length es → pick (ltb last (get_or es i 0)) (rises_after (get_or es i 0) (drop (i + 1) es)) false ≡ r
-    turn h = ap (rises_after last) (sym (left-cons es i h)) ∙ inv
-
-    pub rises-on : i < length es → last < get_or es i 0 → rises_after (get_or es i 0) (drop (i + 1) es) ≡ r
-    rises-on h l = sym (ap (λ (b : Bool). pick b (rises_after (get_or es i 0) (drop (i + 1) es)) false) (lt-ltb last (get_or es i 0) l)) ∙ turn h
-
-    pub rises-off : i < length es → get_or es i 0 ≤ last → false ≡ r
-    rises-off h l = sym (ap (λ (b : Bool). pick b (rises_after (get_or es i 0) (drop (i + 1) es)) false) (le-ltb last (get_or es i 0) l)) ∙ turn h
-
-    pub rises-end : length es ≤ i → true ≡ r
-    rises-end h = ap (rises_after last) (sym (drop_of_length-le es h)) ∙ inv
-
--- ---- the address that one is mapped to
-
-module _ (x : ℕ) (es ns : List ℕ) (i : ℕ) {r : Option ℕ} (inv : mapped_in x (drop i es) (drop i ns) ≡ r) where
-  map-turn : i < length es → i < length ns → pick (eqb (get_or es i 0) x) (Some (get_or ns i 0)) (mapped_in x (drop (i + 1) es) (drop (i + 1) ns)) ≡ r
-  map-turn h l = ap₂ (mapped_in x) (sym (left-cons es i h)) (sym (left-cons ns i l)) ∙ inv
-
-  pub map-here : i < length es → i < length ns → get_or es i 0 ≡ x → Some (get_or ns i 0) ≡ r
-  map-here h l e =
-      sym (ap (λ (b : Bool). pick b (Some (get_or ns i 0)) (mapped_in x (drop (i + 1) es) (drop (i + 1) ns))) (eq-eqb (get_or es i 0) x e)) ∙ map-turn h l
-
-  pub map_on : i < length es → i < length ns → (get_or es i 0 ≡ x → ⊥) → mapped_in x (drop (i + 1) es) (drop (i + 1) ns) ≡ r
-  map_on h l e =
-      sym (ap (λ (b : Bool). pick b (Some (get_or ns i 0)) (mapped_in x (drop (i + 1) es) (drop (i + 1) ns))) (ne_eqb (get_or es i 0) x e)) ∙ map-turn h l
-
-  pub map-out : i < length es → length ns ≤ i → None ≡ r
-  map-out h l = ap₂ (mapped_in x) (sym (left-cons es i h)) (sym (drop_of_length-le ns l)) ∙ inv
-
-  pub map-end : length es ≤ i → None ≡ r
-  map-end h = ap (λ (l : List ℕ). mapped_in x l (drop i ns)) (sym (drop_of_length-le es h)) ∙ inv
+use Rattle.sending.specs.Members.{member_of, is_past, least_with, least_step, least_of, next_member}
 
 -- ---- the least of those past the last one, and there is none exactly when none is past it
 

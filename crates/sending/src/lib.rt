@@ -41,4 +41,3 @@ pub enum Book {
     Shorts,
     Longs,
 }
-

@@ -3,7 +3,7 @@ use Rattle.tables.specs.declared.Counts.{Counts}
 use Rattle.std.specs.Prelude.{Option, Result, Ok, Err}
 use Prim.Native.Nat.{ℕ}
 use native.Mathlib.Omega.{arith}
-use mathlib.Core.Path.{◌≡◌, sym, ap, ap₂, ◌∙◌}
+use mathlib.Core.Path.{◌≡◌, sym, ap, ◌∙◌}
 use mathlib.Core.Bool.{Bool}
 use mathlib.Core.List.{List}
 use Rattle.rows.specs.Moves.{Turn}

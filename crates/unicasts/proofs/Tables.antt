@@ -9,14 +9,11 @@ use Rattle.records.specs.Records.{unicast_entry, unicast_id}
 use Rattle.records.specs.declared.Entry.{Entry}
 use Rattle.rows.specs.Tables.{Held, Stands}
 use Rattle.rows.specs.Moves.{Turn, first_at, first_of, any_of, has_id}
-use Rattle.rows.specs.Moves.{Same}
 use Rattle.tables.specs.Layouts.{unicast_table}
-use Rattle.actions.specs.Calls.{Swept, Played}
+use Rattle.actions.specs.Calls.{Played}
 use Rattle.actions.proofs.Sweeps.{turn-found}
 use Rattle.sending.specs.Types.{Unicast, Refusal}
-use Rattle.sending.specs.declared.UnicastTurn.{UnicastTurn}
-use Rattle.sending.specs.declared.UnicastTurn.TheVariants.{KeepsU, HandsOffU}
-use Rattle.sending.specs.Rules.{turn_u, beside}
+use Rattle.sending.specs.Rules.{beside}
 use Rattle.sending.specs.Lists.{loan_by}
 use Rattle.unicasts.specs.Calls.{Called}
 use Rattle.scanning.proofs.Scans.{row_at, sends, first-row}
@@ -27,12 +24,6 @@ use Rattle.scanning.proofs.Scans.{row_at, sends, first-row}
 pub stands : {ws : List ℕ} {n i : ℕ} {u v : Unicast} → i < n → u ≡ row_at ws i → unicast_entry v ≡ unicast_entry u → Stands unicast_table ws n i v
 stands l p e = record { there = l; same = ap (λ (x : Entry). x.id) e ∙ ap unicast_id p }
 
-pub kept_entry : {t : UnicastTurn} (u : Unicast) {v : Unicast} → t ≡ KeepsU v → Same unicast_entry u (turn_u t) → unicast_entry v ≡ unicast_entry u
-kept_entry u e s = subst (λ (x : UnicastTurn). Same unicast_entry u (turn_u x)) e s
-
-pub handed-entry : {t : UnicastTurn} (u : Unicast) {v : Unicast} → t ≡ HandsOffU v → Same unicast_entry u (turn_u t) → unicast_entry v ≡ unicast_entry u
-handed-entry u e s = subst (λ (x : UnicastTurn). Same unicast_entry u (turn_u x)) e s
-
 module _ {ws buf ws' buf' : List ℕ} {n m n' m' i : ℕ} where
   -- what was played is the turn that the rule says, of the record that stands there
   pub played-as : {x y : Turn Unicast} {u v : Unicast} → x ≡ y → u ≡ v → Played unicast_table unicast_entry x i u ws n buf m ws' n' buf' m'
@@ -40,12 +31,6 @@ module _ {ws buf ws' buf' : List ℕ} {n m n' m' i : ℕ} where
   played-as {x} {y} {u} {v} e p s =
       subst (λ (a : Turn Unicast). Played unicast_table unicast_entry a i v ws n buf m ws' n' buf' m') e
       (subst (λ (b : Unicast). Played unicast_table unicast_entry x i b ws n buf m ws' n' buf' m') p s)
-
-module _ {ws buf ws' buf' : List ℕ} {n m n' m' : ℕ} where
-  -- a sweep with the same turns
-  pub swept_as : {f g : Unicast → Turn Unicast} → ((u : Unicast) → f u ≡ g u) → Swept unicast_table unicast_entry f ws n buf m ws' n' buf' m'
-      → Swept unicast_table unicast_entry g ws n buf m ws' n' buf' m'
-  swept_as {f} {g} p s = subst (λ (a : Unicast → Turn Unicast). Swept unicast_table unicast_entry a ws n buf m ws' n' buf' m') (λ k u. p u k) s
 
 -- ---- a call by id
 
