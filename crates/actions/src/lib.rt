@@ -13,7 +13,7 @@ use records::{Action, Entry, SendFailure, Verdict};
 fn tags_of(v: Verdict, hop: Option<u16>) -> u64
     ensures { CodedTags v hop result }
 {
-    let number = records::numbers::verdict_number(v) as u64;
+    let number = u64::from(u8::from(v));
     let code = records::numbers::verdict_code(v) as u64;
     let a = records::numbers::verdict_address(v);
     let tag = codes::address_tag(a);

@@ -12,7 +12,7 @@ ghost use Rattle.model.specs.Calls.{reached, routed, retry_of, fail_of, route_of
 
 use crate::enqueues;
 use model::{Answer, Counts, Did, Resolved};
-use records::{Address, Destination, Refusal, Settings, Unicast, Unrouted, Verdict, blanks};
+use records::{Address, Destination, Entry, Refusal, Settings, Unicast, Unrouted, Verdict};
 use turning::rules;
 use unrouted::{Retry, Which};
 
@@ -127,7 +127,7 @@ fn route_one(
             Entered { sends, told: m }
         }
         Err(code) => {
-            let e = blanks::unrouted_entry(u);
+            let e = Entry::from(u);
             let told = actions::settle(told, m, e, Verdict::Code(code), None);
             Entered { sends: n, told }
         }

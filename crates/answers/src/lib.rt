@@ -7,7 +7,7 @@ ghost use Rattle.answers.specs.Items.{item_bytes, action_bytes};
 ghost use Rattle.answers.specs.Types.{Refused, Done, Id, YesNo, Time, ShortAddress, ExtendedAddress, Abandonment, DestinationAddress};
 
 use model::Transmit;
-use records::{Action, Entry, QuorumKey, Refusal, Verdict, numbers};
+use records::{Action, Entry, QuorumKey, Refusal, Verdict};
 
 pub mod bytes;
 pub mod parts;
@@ -51,7 +51,7 @@ pub fn put_refused(out: &mut [u8], at: usize, x: Refusal) -> usize
     requires { at + 2 ≤ length out.old }
     ensures { Written at (item_bytes (Refused x)) out.old out.new result }
 {
-    bytes::put_two(out, at, 128, numbers::refusal_number(x))
+    bytes::put_two(out, at, 128, u8::from(x))
 }
 
 // 129 alone.

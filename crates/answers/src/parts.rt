@@ -22,7 +22,7 @@ pub(crate) fn put_verdict(out: &mut [u8], at: usize, v: Verdict) -> usize
     requires { at + 12 ≤ length out.old }
     ensures { Written at (verdict_bytes v) out.old out.new result }
 {
-    let number = numbers::verdict_number(v);
+    let number = u8::from(v);
     let a = numbers::verdict_address(v);
     let code = numbers::verdict_code(v);
     let second = bytes::put_byte(out, at, number);

@@ -4,7 +4,7 @@ ghost use Rattle.records.specs.declared.SendFailure.TheVariants.{ApsAckTimeout};
 ghost use Rattle.sending.specs.declared.Due.TheVariants.{Leave};
 ghost use Rattle.sending.specs.Rules.{unsent, under, copies_by, pending_head, pends_head, beside_head, sent_copy_head, sought_head, lapse_due, retry_due, tick_due, drop_due, copy_due, due_head, better_of, wake_head};
 
-use records::{Address, Priority, SendFailure, Stage, compare, priorities, times};
+use records::{Address, Priority, SendFailure, Stage, compare, times};
 use sending::{Due, Sought, Which};
 use tables::unicast_rows::UnicastHead;
 
@@ -159,7 +159,7 @@ pub fn better_of(h: UnicastHead, b: Option<(u32, Priority)>) -> Option<(u32, Pri
     ensures { result ≡ better_of h b }
 {
     match b {
-        Some((_, q)) if priorities::rank(h.priority) < priorities::rank(q) => b,
+        Some((_, q)) if h.priority < q => b,
         None | Some((..)) => Some((h.id, h.priority)),
     }
 }

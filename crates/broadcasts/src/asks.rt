@@ -8,7 +8,6 @@ ghost use Rattle.tables.specs.Layouts.{broadcast_table, broadcast_head};
 ghost use Rattle.casting.specs.Rules.{best_head, best_of, may_stir, wake_of, is_transmitting, awaited_head};
 
 use casting::heads;
-use records::priorities::rank;
 use records::{Broadcast, CopyState, QuorumKey};
 use repeating::turns;
 use tables::broadcast_rows;
@@ -24,7 +23,7 @@ fn best_at(w: &[u64; 112], i: usize, clock: u64, best: Option<(u32, u8)>) -> Opt
         return best;
     }
     let h = broadcast_rows::head(w, i);
-    heads::better_of(h.id, rank(h.priority), best)
+    heads::better_of(h.id, u8::from(h.priority), best)
 }
 
 // The best queued one: of the highest priority, and then of the lowest id. One past its deadline is left for the tick.

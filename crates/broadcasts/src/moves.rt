@@ -11,8 +11,7 @@ ghost use Rattle.broadcasts.specs.Calls.{Plays, Answered, Dequeued};
 
 use crate::asks;
 use casting::heads;
-use records::blanks::broadcast_entry;
-use records::{Broadcast, Priority, QuorumKey, Refusal, Schedule, TxResult};
+use records::{Broadcast, Entry, Priority, QuorumKey, Refusal, Schedule, TxResult};
 use repeating::turns;
 use rows::Turn;
 use tables::{Counts, broadcast_rows};
@@ -31,7 +30,7 @@ fn play(
     requires plays { Plays w.old n m i u t }
     ensures { Played broadcast_table broadcast_entry t i u w.old n told.old m w.new result.sends told.new result.told }
 {
-    let e = broadcast_entry(u);
+    let e = Entry::from(u);
     match t {
         Turn::Keeps(b) => {
             tables::store(w, n, i, b);

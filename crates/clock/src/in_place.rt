@@ -5,7 +5,6 @@ ghost use Rattle.clock.specs.Lent.{clock_of, told_of, numbers_of, clock_at};
 
 use crate::Clock;
 use records::Refusal;
-use records::numbers::refusal_number;
 
 // What the holder of a lent clock is told, in numbers: the refusal's number or 0, and where the clock stands.
 #[derive(Clone, Copy)]
@@ -35,7 +34,7 @@ pub fn advance_numbers(last: u32, time: u64, reading: u32) -> Numbers
     let mut c = Clock { last, time };
     let refusal = match advance_lent(&mut c, reading) {
         Ok(_) => 0,
-        Err(refusal) => refusal_number(refusal),
+        Err(refusal) => refusal.into(),
     };
     Numbers {
         refusal,

@@ -1,16 +1,15 @@
 -- What the numbers of a record's parts say is the part again. Assumes nothing.
-use Rattle.std.specs.Prelude.{None, Some}
-use Prim.Native.Nat.{ℕ, ◌+◌, ◌-◌, ◌*◌, ◌/◌, ◌%◌, ◌<◌}
+use Rattle.std.specs.Prelude.{None}
+use Prim.Native.Nat.{ℕ, ◌+◌, ◌*◌, ◌/◌, ◌%◌, ◌<◌}
 use native.Mathlib.Nat.{mod-eq_of_lt}
 use native.Mathlib.Omega.{arith}
 use mathlib.Core.Path.{◌≡◌, refl, ap, ap₂, ◌∙◌}
 use mathlib.Core.Bool.{Bool, true, false}
 use lib.Dec.{eqb}
-use borrow.Author.Tests.{ne_eqb}
 use Rattle.records.specs.Pick.{pick, bit}
 use Rattle.records.specs.Priorities.{rank_of}
 use Rattle.codes.specs.Types.{Priority, Background, UserLow, UserNormal, UserHigh, UserCritical, StackCritical, Address, Absent, Short, Extended, Stage, Queued, Transmitting, Retrying, AwaitingPoll, AwaitingApsAck, CopyState, Idle, CopyQueued, CopyTransmitting, Schedule, Once, PassiveAck, FixedInterval, QuorumKey, AckKey, OnHandoff, ApsAck}
-use Rattle.codes.specs.Codes.{Coded, opt_word, opt_from, opt8_word, opt8_from, opt16_word, opt16_from, opt32_word, opt32_from, priority_from, flag, address_tag, CodedAddress, stage_tag, stage_time, stage_from, copy_tag, copy_from, quorum_word, quorum_from, schedule_tag, CodedSchedule, ack_first, ack_second, ack_key_from, confirm_from, CodedConfirm}
+use Rattle.codes.specs.Codes.{Coded, opt_word, opt_from, opt8_word, opt8_from, opt16_word, opt16_from, priority_from, flag, address_tag, CodedAddress, stage_tag, stage_time, stage_from, copy_tag, copy_from, quorum_word, quorum_from, schedule_tag, CodedSchedule, ack_first, ack_second, ack_key_from, confirm_from, CodedConfirm}
 
 -- ---- optional numbers
 

@@ -3,7 +3,6 @@
 #![tactic(auto)]
 
 ghost use Rattle.std.specs.Prelude.{◌≡◌, ℕ, ◌<◌, ◌≤◌, ◌*◌, ◌%◌};
-ghost use Rattle.records.specs.Pick.{bit};
 ghost use Rattle.codes.specs.Codes.{opt_word, opt_from, priority_from, address_tag, address_from, stage_tag, stage_time, stage_from, copy_tag, copy_from, schedule_tag, schedule_next, schedule_from, quorum_word, quorum_from, ack_key_from, confirm_from, Coded, CodedAddress, CodedCopies, CodedSchedule, CodedConfirm};
 ghost use Rattle.codes.specs.Types.{ApsAck};
 ghost use Rattle.std.proofs.Common.{rules, mod-eq_of_lt};
@@ -115,7 +114,7 @@ pub fn opt_of<T: Narrow>(x: u64) -> Option<T>
     if x == 0 { None } else { Some(T::narrow(x - 1)) }
 }
 
-// ---- levels and flags
+// ---- levels
 
 pub fn priority_of(rank: u64) -> Priority
     ensures { result ≡ priority_from rank }
@@ -128,12 +127,6 @@ pub fn priority_of(rank: u64) -> Priority
         4 => Priority::UserCritical,
         _ => Priority::StackCritical,
     }
-}
-
-pub fn flag_word(b: bool) -> u64
-    ensures { result ≡ bit b }
-{
-    u64::from(b)
 }
 
 // ---- addresses: a tag and a word

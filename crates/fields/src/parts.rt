@@ -21,6 +21,7 @@ pub fn opt_by<T: Copy>(flag: u8, x: T, blank: bool) -> Option<Option<T>>
 
 // ---- a level, an address
 
+// No `TryFrom`, here and at `lender_by`: a part that is not in its form is `None` as in all of these, and no caller asks for an error.
 pub fn priority_by(rank: u8) -> Option<Priority>
     ensures { result ≡ priority_by rank }
 {

@@ -8,7 +8,7 @@ ghost use Rattle.lending.specs.Choices.{chosen_of};
 
 use broadcasts::moves;
 use model::{Answer, Counts, Did, Lender, Transmit};
-use records::{Priority, Refusal, TxResult, priorities};
+use records::{Priority, Refusal, TxResult};
 use unicasts::calls;
 
 // The send that goes to the radio, if one does.
@@ -35,7 +35,7 @@ fn choose(x: Option<(u32, Priority)>, y: Option<(u32, u8)>) -> Chosen
         (None, Some((j, _))) => Chosen::OneBroadcast(j),
         (Some((i, _)), None) => Chosen::OneUnicast(i),
         (Some((i, p)), Some((j, q))) => {
-            if unicast_first(i, priorities::rank(p), j, q) {
+            if unicast_first(i, u8::from(p), j, q) {
                 Chosen::OneUnicast(i)
             } else {
                 Chosen::OneBroadcast(j)

@@ -11,7 +11,7 @@ ghost use Rattle.doing.specs.Parts.{Listed};
 ghost use Rattle.lent.specs.Fills.{Filled, Matching};
 
 use broadcasts::asks;
-use records::{Broadcast, Entry, QuorumKey, Unicast, Unrouted, blanks};
+use records::{Broadcast, Entry, QuorumKey, Unicast, Unrouted};
 use scanning::sets;
 use sending::Book;
 
@@ -40,7 +40,7 @@ pub(crate) fn list_unicasts(w: &[u64; 320], n: usize, list: &mut [u64; 128], at:
 {
     for i in 0..n {
         let u = tables::load::<Unicast>(w, i);
-        list_one(list, at + i, blanks::unicast_entry(u));
+        list_one(list, at + i, Entry::from(u));
     }
     at + n
 }
@@ -53,7 +53,7 @@ pub(crate) fn list_unrouted(w: &[u64; 112], n: usize, list: &mut [u64; 128], at:
 {
     for i in 0..n {
         let u = tables::load::<Unrouted>(w, i);
-        list_one(list, at + i, blanks::unrouted_entry(u));
+        list_one(list, at + i, Entry::from(u));
     }
     at + n
 }
@@ -66,7 +66,7 @@ pub(crate) fn list_broadcasts(w: &[u64; 112], n: usize, list: &mut [u64; 128], a
 {
     for i in 0..n {
         let u = tables::load::<Broadcast>(w, i);
-        list_one(list, at + i, blanks::broadcast_entry(u));
+        list_one(list, at + i, Entry::from(u));
     }
     at + n
 }

@@ -6,7 +6,7 @@ ghost use Rattle.std.specs.Prelude.{◌≡◌, ◌≤◌, IfOk};
 ghost use Rattle.model.specs.Sound.{Sound};
 
 use model::{Answer, Answered, Lender, NewUnicast, Sends, Transmit};
-use records::{Action, Address, Confirm, Priority, TxResult, Verdict, numbers};
+use records::{Action, Address, Confirm, Priority, Settings, TxResult, Verdict};
 use sends::asks;
 use std::io;
 use std::io::Print;
@@ -75,7 +75,7 @@ fn enqueue(rt: &impl Print, g: Gateway, told: &mut [u64; 560], clock: u64) -> io
 {
     print!(rt; "{clock} ms: enqueue_unicast of an update for ")?;
     words::address(rt, Address::Extended(PANEL))?;
-    let x = sends::enqueue_unicast(g.sends, told, numbers::default_settings(), update(), clock);
+    let x = sends::enqueue_unicast(g.sends, told, Settings::default(), update(), clock);
     heard(rt, x, told, g.lit)
 }
 

@@ -1,7 +1,7 @@
 // What the calls answer and what the driver must do, in plain words on standard output. Each function, and those of main.rt that call
 // it, stops at the first write that fails and answers that error, and no other; what was written before it stands.
 use model::{Answer, Transmit};
-use records::{Action, Address, Entry, Refusal, SendFailure, TxResult, Verdict, numbers};
+use records::{Action, Address, Entry, Refusal, SendFailure, TxResult, Verdict};
 use std::io;
 use std::io::Print;
 
@@ -15,7 +15,7 @@ pub(crate) fn report(rt: &impl Print, id: u32, frame: u32, x: TxResult) -> io::R
 }
 
 fn denied(rt: &impl Print, r: Refusal) -> io::Result<()> {
-    print!(rt; "denied with number {}", numbers::refusal_number(r))
+    print!(rt; "denied with number {}", u8::from(r))
 }
 
 fn flight(rt: &impl Print, id: u32, frame: u32, how: Transmit) -> io::Result<()> {

@@ -16,7 +16,7 @@ pub enum Address {
 }
 
 // Transmit priority, lowest first.
-#[derive(Clone, Copy, PartialEq, Eq)]
+#[derive(Clone, Copy, PartialEq, Eq, PartialOrd, Ord)]
 pub enum Priority {
     Background,
     UserLow,

@@ -4,49 +4,55 @@ ghost use Rattle.records.specs.Numbers.{refusal_number, failure_number, verdict_
 
 use crate::{Address, Refusal, SendFailure, Settings, Verdict};
 
-pub fn refusal_number(r: Refusal) -> u8
-    ensures { result ≡ refusal_number r }
-{
-    match r {
-        Refusal::TimeTooLate => 1,
-        Refusal::IdsExhausted => 2,
-        Refusal::NoCopies => 3,
-        Refusal::NoPlace => 4,
-        Refusal::NoSuchSend => 5,
-        Refusal::InTheRadio => 6,
-        Refusal::NotInTheRadio => 7,
-        Refusal::OtherFrame => 8,
-        Refusal::DestinationNotHeld => 9,
-        Refusal::ResultsMismatch => 10,
-        Refusal::MapMalformed => 11,
-        Refusal::UnknownKind => 12,
-        Refusal::RecordCut => 13,
-        Refusal::FieldMalformed => 14,
-        Refusal::AnswersDoNotFit => 15,
-        Refusal::TraceTooLong => 16,
+impl From<Refusal> for u8 {
+    ghost from_gives = { λ r n. n ≡ refusal_number r };
+
+    fn from(r: Refusal) -> u8 {
+        match r {
+            Refusal::TimeTooLate => 1,
+            Refusal::IdsExhausted => 2,
+            Refusal::NoCopies => 3,
+            Refusal::NoPlace => 4,
+            Refusal::NoSuchSend => 5,
+            Refusal::InTheRadio => 6,
+            Refusal::NotInTheRadio => 7,
+            Refusal::OtherFrame => 8,
+            Refusal::DestinationNotHeld => 9,
+            Refusal::ResultsMismatch => 10,
+            Refusal::MapMalformed => 11,
+            Refusal::UnknownKind => 12,
+            Refusal::RecordCut => 13,
+            Refusal::FieldMalformed => 14,
+            Refusal::AnswersDoNotFit => 15,
+            Refusal::TraceTooLong => 16,
+        }
     }
 }
 
-pub fn failure_number(f: SendFailure) -> u8
-    ensures { result ≡ failure_number f }
-{
-    match f {
-        SendFailure::HandoffTimeout => 1,
-        SendFailure::ApsAckTimeout => 2,
-        SendFailure::IndirectExpired(_) => 3,
-        SendFailure::RouteDiscoveryTimeout => 4,
-        SendFailure::BroadcastQuorumNotReached => 5,
-        SendFailure::Cancelled => 6,
+impl From<SendFailure> for u8 {
+    ghost from_gives = { λ f n. n ≡ failure_number f };
+
+    fn from(f: SendFailure) -> u8 {
+        match f {
+            SendFailure::HandoffTimeout => 1,
+            SendFailure::ApsAckTimeout => 2,
+            SendFailure::IndirectExpired(_) => 3,
+            SendFailure::RouteDiscoveryTimeout => 4,
+            SendFailure::BroadcastQuorumNotReached => 5,
+            SendFailure::Cancelled => 6,
+        }
     }
 }
 
-pub fn verdict_number(v: Verdict) -> u8
-    ensures { result ≡ verdict_number v }
-{
-    match v {
-        Verdict::Success => 0,
-        Verdict::Failure(f) => failure_number(f),
-        Verdict::Code(_) => 7,
+impl From<Verdict> for u8 {
+    ghost from_gives = { λ v n. n ≡ verdict_number v };
+
+    fn from(v: Verdict) -> u8 {
+        match v {
+            Verdict::Success => 0,
+            Verdict::Failure(f) => f.into(),
+            Verdict::Code(_) => 7,
+        }
     }
 }
 
@@ -71,13 +77,15 @@ pub fn verdict_code(v: Verdict) -> u16
 }
 
 // The settings in force until others are given.
-pub fn default_settings() -> Settings
-    ensures { result ≡ default_settings }
-{
-    Settings {
-        handoff_timeout: 8000,
-        persistence_time: 7680,
-        unicast_retries: 3,
-        discovery_attempts: 3,
+impl Default for Settings {
+    ghost is_default = { λ s. s ≡ default_settings };
+
+    fn default() -> Settings {
+        Settings {
+            handoff_timeout: 8000,
+            persistence_time: 7680,
+            unicast_retries: 3,
+            discovery_attempts: 3,
+        }
     }
 }

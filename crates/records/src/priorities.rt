@@ -5,34 +5,25 @@ ghost use Rattle.records.specs.Priorities.{from_host, rank_of};
 use crate::Priority;
 
 // The level that a host may ask for; it cannot ask for the stack's own.
-pub fn from_host(value: i8) -> Priority
-    ensures { result ≡ from_host value }
-{
-    if value < -1 {
-        return Priority::Background;
+impl From<i8> for Priority {
+    ghost from_gives = { λ value p. p ≡ from_host value };
+
+    fn from(value: i8) -> Priority {
+        match value {
+            ..=-2 => Priority::Background,
+            -1 => Priority::UserLow,
+            0 => Priority::UserNormal,
+            1 => Priority::UserHigh,
+            2.. => Priority::UserCritical,
+        }
     }
-    if value == -1 {
-        return Priority::UserLow;
-    }
-    if value == 0 {
-        return Priority::UserNormal;
-    }
-    if value == 1 {
-        return Priority::UserHigh;
-    }
-    Priority::UserCritical
 }
 
 // 0 for the lowest level to 5 for the highest.
-pub fn rank(p: Priority) -> u8
-    ensures { result ≡ rank_of p }
-{
-    match p {
-        Priority::Background => 0,
-        Priority::UserLow => 1,
-        Priority::UserNormal => 2,
-        Priority::UserHigh => 3,
-        Priority::UserCritical => 4,
-        Priority::StackCritical => 5,
+impl From<Priority> for u8 {
+    ghost from_gives = { λ p rank. rank ≡ rank_of p };
+
+    fn from(p: Priority) -> u8 {
+        p as u8
     }
 }

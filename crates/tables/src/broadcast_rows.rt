@@ -6,7 +6,7 @@ ghost use Rattle.tables.specs.Layouts.{BroadcastTagged, broadcast_head, broadcas
 ghost use Rattle.tables.specs.Laws.{broadcast_lawful, broadcast_width};
 
 use crate::Record;
-use records::{Broadcast, CopyState, Priority, Schedule, priorities};
+use records::{Broadcast, CopyState, Priority, Schedule};
 
 // What a scan reads of a record: all but its handles, its handoff and its last error.
 #[derive(Clone, Copy)]
@@ -113,10 +113,10 @@ pub fn deadline(w: &[u64; 112], i: usize) -> u64
 fn tags_of(b: Broadcast) -> u64
     ensures { BroadcastTagged b result }
 {
-    let rank = u64::from(priorities::rank(b.priority));
+    let rank = u64::from(u8::from(b.priority));
     let copy = codes::copy_tag(b.copy);
-    let handed = codes::flag_word(b.handed_off);
-    let heard = codes::flag_word(b.quorum_heard);
+    let handed = u64::from(b.handed_off);
+    let heard = u64::from(b.quorum_heard);
     let kind = codes::schedule_tag(b.schedule);
     let copies = codes::schedule_copies(b.schedule);
     let last = codes::opt_word(b.last_error);

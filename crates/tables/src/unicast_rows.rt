@@ -6,7 +6,7 @@ ghost use Rattle.tables.specs.Layouts.{UnicastTagged, unicast_head, unicast_tabl
 ghost use Rattle.tables.specs.Laws.{unicast_lawful, unicast_width};
 
 use crate::Record;
-use records::{Address, Confirm, Priority, Stage, Unicast, priorities};
+use records::{Address, Confirm, Priority, Stage, Unicast};
 
 // What a scan reads of a record: all but its handles, its next hop and what confirms it.
 #[derive(Clone, Copy)]
@@ -130,7 +130,7 @@ fn tags_of(u: Unicast) -> u64
     let stage = codes::stage_tag(u.stage);
     let address = codes::address_tag(u.poll_address);
     // `as`, since the check finds alone then that the sum below fits; after `u64::from` it does not.
-    let rank = priorities::rank(u.priority) as u64;
+    let rank = u8::from(u.priority) as u64;
     let attempts = u.attempts_remaining as u64;
     let hop = u.next_hop as u64;
     stage + 8 * (address + 4 * (rank + 8 * (attempts + 256 * hop)))

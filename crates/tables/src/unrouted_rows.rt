@@ -6,7 +6,7 @@ ghost use Rattle.tables.specs.Layouts.{unrouted_head, unrouted_table};
 ghost use Rattle.tables.specs.Laws.{unrouted_lawful, unrouted_width};
 
 use crate::Record;
-use records::{Unrouted, priorities};
+use records::Unrouted;
 
 // What a scan reads of a record.
 #[derive(Clone, Copy)]
@@ -46,7 +46,7 @@ impl Record for Unrouted {
 
     fn write(self, row: &mut [u64]) {
         let two = codes::confirm_words(self.confirm);
-        let rank = u64::from(priorities::rank(self.priority));
+        let rank = u64::from(u8::from(self.priority));
         row[0] = u64::from(self.id);
         row[1] = u64::from(self.frame);
         row[2] = u64::from(self.waiter);

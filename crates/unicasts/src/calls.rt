@@ -12,7 +12,7 @@ ghost use Rattle.sending.specs.Rules.{with_stage, keyed, ack_turn, report_turn, 
 ghost use Rattle.sending.specs.Lists.{report_bar, cancel_bar};
 ghost use Rattle.unicasts.specs.Calls.{PolledOne, Dequeued, Called};
 
-use records::{AckKey, Refusal, Stage, TxResult, Unicast, Verdict};
+use records::{AckKey, Entry, Refusal, Stage, TxResult, Unicast, Verdict};
 use rows::Turn;
 use scanning::asks;
 use sending::{Due, Which};
@@ -35,7 +35,7 @@ fn finish(
     ensures { Played unicast_table unicast_entry (Settles again v hop) i (get_or (rows_of unicast_table w.old) i blank_unicast) w.old n told.old m w.new (n - 1) told.new result }
 {
     let u = tables::load::<Unicast>(w, i);
-    let e = records::blanks::unicast_entry(u);
+    let e = Entry::from(u);
     let next = actions::settle_again(told, m, e, again, v, hop);
     tables::remove_at::<Unicast>(w, n, i);
     next
@@ -64,7 +64,7 @@ fn play(
             Counts { sends: n, told: m }
         }
         Turn::HandsOff(v) => {
-            let e = records::blanks::unicast_entry(u);
+            let e = Entry::from(u);
             let next = actions::hand_off(told, m, e);
             tables::store(w, n, i, v);
             Counts {

@@ -15,9 +15,8 @@ ghost use Rattle.actions.specs.Calls.{Swept, Turned, Played};
 ghost use Rattle.unrouted.specs.Rules.{admitted_of, chosen_head, failure_of, sweep_turn, cancel_turn, goes_to, left_to, left_head, wake_of, is_held, newly_held};
 ghost use Rattle.unrouted.specs.Calls.{Enqueued, Retried, FailedAll, Taken, Abandoned};
 
-use records::blanks::unrouted_entry;
 use records::times::sooner_of;
-use records::{Confirm, Destination, Priority, SendFailure, Unrouted, Verdict};
+use records::{Confirm, Destination, Entry, Priority, SendFailure, Unrouted, Verdict};
 use tables::unrouted_rows::UnroutedHead;
 use tables::{Counts, unrouted_rows};
 
@@ -106,7 +105,7 @@ fn drop_at(
     ensures { Played unrouted_table unrouted_entry (Settles false (Failure f) None) i (get_or (rows_of unrouted_table w.old) i blank_unrouted) w.old n told.old m w.new (n - 1) told.new result }
 {
     let u = tables::load::<Unrouted>(w, i);
-    let e = unrouted_entry(u);
+    let e = Entry::from(u);
     let next = actions::settle(told, m, e, Verdict::Failure(f), None);
     tables::remove_at::<Unrouted>(w, n, i);
     next

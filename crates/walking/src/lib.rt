@@ -9,7 +9,7 @@ ghost use Rattle.runs.specs.Run.{Ran};
 
 use framing::{Standing, reader};
 use model::Counts;
-use records::{Broadcast, Destination, Unicast, Unrouted};
+use records::{Broadcast, Destination, Settings, Unicast, Unrouted};
 
 // No send is there, and the first id is 0.
 fn no_sends() -> Counts
@@ -48,7 +48,7 @@ pub fn walk(trace: &[u8], out: &mut [u8]) -> usize
     let mut eui = [0; 32];
     let mut nwk = [0; 32];
     let mut c = no_sends();
-    let mut s = records::numbers::default_settings();
+    let mut s = Settings::default();
     let mut pairs = 0;
     let mut at = 0;
     let mut o = 0;
