@@ -5,7 +5,6 @@ ghost use Rattle.sending.specs.Rules.{turn_u, with_stage, stage_for, sent_by, po
 
 use records::{
     AckKey, Address, Confirm, Priority, SendFailure, Settings, Stage, TxResult, Unicast, Verdict,
-    compare,
 };
 use sending::UnicastTurn;
 
@@ -143,10 +142,7 @@ pub fn cancel_turn(u: Unicast) -> UnicastTurn
 pub fn is_keyed(c: Confirm, key: AckKey) -> bool
     ensures { result ≡ keyed_by key c }
 {
-    match c {
-        Confirm::OnHandoff => false,
-        Confirm::ApsAck(k, _) => compare::same_ack_key(k, key),
-    }
+    matches!(c, Confirm::ApsAck(k, _) if k == key)
 }
 
 // In the radio it is marked, and its report settles it.
