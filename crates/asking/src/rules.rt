@@ -4,7 +4,7 @@ ghost use Rattle.records.specs.declared.SendFailure.TheVariants.{ApsAckTimeout};
 ghost use Rattle.sending.specs.declared.Due.TheVariants.{Leave};
 ghost use Rattle.sending.specs.Rules.{unsent, under, copies_by, pending_head, pends_head, beside_head, sent_copy_head, sought_head, lapse_due, retry_due, tick_due, drop_due, copy_due, due_head, better_of, wake_head};
 
-use records::{Address, Priority, SendFailure, Stage, compare, times};
+use records::{Address, Priority, SendFailure, Stage, times};
 use sending::{Due, Sought, Which};
 use tables::unicast_rows::UnicastHead;
 
@@ -41,7 +41,7 @@ fn is_pending(h: UnicastHead, a: Address) -> bool
 {
     match pending_for(h) {
         Address::Absent => false,
-        pending @ (Address::Short(_) | Address::Extended(_)) => compare::same_address(pending, a),
+        pending @ (Address::Short(_) | Address::Extended(_)) => pending == a,
     }
 }
 

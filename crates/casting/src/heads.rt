@@ -2,7 +2,6 @@
 ghost use Rattle.std.specs.Prelude.{◌≡◌};
 ghost use Rattle.casting.specs.Rules.{attempt_by, wake_head, stirs_head, attempt_due, ready_by, better, keyed_by, awaited_head};
 
-use records::compare::same_quorum_key;
 use records::times::sooner_of;
 use records::{CopyState, QuorumKey, Schedule};
 use tables::broadcast_rows::BroadcastHead;
@@ -71,7 +70,7 @@ pub fn better_of(id: u32, rank: u8, o: Option<(u32, u8)>) -> Option<(u32, u8)>
 pub fn is_keyed(s: Schedule, k: QuorumKey) -> bool
     ensures { result ≡ keyed_by k s }
 {
-    matches!(s, Schedule::PassiveAck { key, .. } if same_quorum_key(key, k))
+    matches!(s, Schedule::PassiveAck { key, .. } if key == k)
 }
 
 // The key whose quorum it waits for.

@@ -2,7 +2,6 @@
 #![tactic(auto)]
 
 pub mod blanks;
-pub mod compare;
 pub mod numbers;
 pub mod priorities;
 pub mod times;

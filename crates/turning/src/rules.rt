@@ -5,7 +5,6 @@ ghost use Rattle.sending.specs.Rules.{with_stage, stage_for, sent_by, polled_by,
 
 use records::{
     AckKey, Address, Confirm, Priority, SendFailure, Settings, Stage, TxResult, Unicast, Verdict,
-    compare,
 };
 use rows::Turn;
 
@@ -143,10 +142,7 @@ pub fn cancel_turn(u: Unicast) -> Turn<Unicast>
 pub fn is_keyed(c: Confirm, key: AckKey) -> bool
     ensures { result ≡ keyed_by key c }
 {
-    match c {
-        Confirm::OnHandoff => false,
-        Confirm::ApsAck(k, _) => compare::same_ack_key(k, key),
-    }
+    matches!(c, Confirm::ApsAck(k, _) if k == key)
 }
 
 // In the radio it is marked, and its report settles it.
