@@ -80,10 +80,7 @@ pub fn fail_unrouted(
 fn successes(results: &[Resolved]) -> usize
     ensures { result ≡ count reached results.now }
 {
-    results
-        .iter()
-        .filter(|x| x.is_ok())
-        .count()
+    results.iter().filter(|x| x.is_ok()).count()
 }
 
 // The send as it enters the unicasts: under its id, with the deadline that it was admitted with.

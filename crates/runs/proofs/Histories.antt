@@ -19,7 +19,7 @@ use Rattle.records.specs.declared.Action.TheVariants.{HandedOff, Settled}
 use Rattle.records.proofs.Cases.{either, never}
 use Rattle.rows.specs.Moves.{count, settled_of}
 use Rattle.rows.proofs.Promises.{count_map}
-use Rattle.model.specs.declared.Resolved.{Resolved}
+use Rattle.model.specs.Types.{Resolved}
 use Rattle.model.specs.declared.Answer.TheVariants.{Denied, Accepted, Issued, Replied, NothingQueued, InFlight}
 use Rattle.model.specs.Model.{Model, fresh_of}
 use Rattle.model.specs.Steps.{Call, Reply, Outcome, step_of, after}

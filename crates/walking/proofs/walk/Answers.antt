@@ -12,7 +12,7 @@ use Rattle.walking.proofs.walk.Goals.{then-is_own, else-is_own}
 use Rattle.walking.proofs.walk.Goals as goal
 
 pub loop-out-init : goal.loop-out-init
-loop-out-init c = begins c.requires.in_bounds c.requires.trace_len_bound c.fresh-w.ensures c.fresh-v.ensures c.fresh-d.ensures c.fresh-b.ensures c.no_sends-c.ensures c.default_settings-s.ensures refl refl refl
+loop-out-init c = begins c.requires.in_bounds c.requires.trace_len_bound (c.fresh-w.ensures refl) (c.fresh-v.ensures refl) (c.fresh-d.ensures refl) (c.fresh-b.ensures refl) c.no_sends-c.ensures c.default_settings-s.ensures refl refl refl
 
 pub returns-in-End : goal.returns-in-End
 returns-in-End c = at-end c.loop-out.invariant.running (sym c.stands_at.ensures ∙ c.in-End.is) c.end.ensures
