@@ -13,25 +13,28 @@ pub fn u16_at(s: &[u8], at: usize) -> u16
     requires { at + 2 ≤ length s.now }
     ensures { result ≡ number 2 at s.now }
 {
-    let lower = byte_at(s, at);
-    let upper = byte_at(s, at + 1);
-    lower as u16 + 256 * (upper as u16)
+    u16::from_le_bytes([s[at], s[at + 1]])
 }
 
 pub fn u32_at(s: &[u8], at: usize) -> u32
     requires { at + 4 ≤ length s.now }
     ensures { result ≡ number 4 at s.now }
 {
-    let lower = u16_at(s, at);
-    let upper = u16_at(s, at + 2);
-    lower as u32 + 65536 * (upper as u32)
+    u32::from_le_bytes([s[at], s[at + 1], s[at + 2], s[at + 3]])
 }
 
 pub fn u64_at(s: &[u8], at: usize) -> u64
     requires { at + 8 ≤ length s.now }
     ensures { result ≡ number 8 at s.now }
 {
-    let lower = u32_at(s, at);
-    let upper = u32_at(s, at + 4);
-    lower as u64 + 4294967296 * (upper as u64)
+    u64::from_le_bytes([
+        s[at],
+        s[at + 1],
+        s[at + 2],
+        s[at + 3],
+        s[at + 4],
+        s[at + 5],
+        s[at + 6],
+        s[at + 7],
+    ])
 }
