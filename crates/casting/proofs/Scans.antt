@@ -22,9 +22,6 @@ row_at ws i = get_or (rows_of broadcast_table ws) i blank_broadcast
 pub scanned-lt : {ws : List ℕ} {n i : ℕ} (h : Held broadcast_table ws n) (q : Broadcast → Bool) → Some i ≡ first_at q (live broadcast_table ws n) → i < n
 scanned-lt {ws} {n} {i} h q e = omega (arith, (first_found q Keeps blank_broadcast (live broadcast_table ws n) i (sym e)).there, held-length h)
 
-pub key-tested : (b : Broadcast) {s : Schedule} {r x : Bool} → s ≡ b.schedule → (k : QuorumKey) → r ≡ keyed_by k s → r ≡ x → keyed k b ≡ x
-key-tested b is k e t = sym (e ∙ ap (keyed_by k) is) ∙ t
-
 module _ (b : Broadcast) {h : BroadcastHead} {r x : Bool} (is : h ≡ broadcast_head b) where
   pub stirs-tested : (now : ℕ) → r ≡ stirs_head now h → r ≡ x → stirs_head now (broadcast_head b) ≡ x
   stirs-tested now e t = sym (e ∙ ap (stirs_head now) is) ∙ t

@@ -47,9 +47,6 @@ address-low Absent = omega arith
 address-low (Short x) = omega arith
 address-low (Extended x) = omega arith
 
-pub short_back : (x : ℕ) → x < 65536 → CodedAddress (Short x) x
-short_back x h = record { is = refl; back = ap Short (mod-eq_of_lt h) }
-
 pub stage-back : (s : Stage) → stage_from (stage_tag s) (stage_time s) ≡ s
 stage-back Queued = refl
 stage-back (Transmitting true) = refl
@@ -100,79 +97,3 @@ pub schedule-low : (s : Schedule) → schedule_tag s < 4
 schedule-low Once = omega arith
 schedule-low (PassiveAck key copies next) = omega arith
 schedule-low (FixedInterval interval copies next) = omega arith
-
-pub passive-back : (k : QuorumKey) (copies next r : ℕ) → copies < 256 → Coded quorum_word quorum_from 16777216 k r → CodedSchedule (PassiveAck k copies next) r
-passive-back k copies next r h c =
-    record { is = c.is; low = h; back = ap₂ (λ (q : QuorumKey) (n : ℕ). PassiveAck q n next) c.back (mod-eq_of_lt h) }
-
-pub fixed_back : (interval copies next : ℕ) → interval < 4294967296 → copies < 256 → CodedSchedule (FixedInterval interval copies next) interval
-fixed_back interval copies next i h =
-    record { is = refl; low = h; back = ap₂ (λ (m n : ℕ). FixedInterval m n next) (mod-eq_of_lt i) (mod-eq_of_lt h) }
-
--- ---- what confirms a send
-
-module _ (s d c p : ℕ) (hs : s < 65536) (hd : d < 512) (hc : c < 131072) (hp : p < 131072) where
-  abbrev four : ℕ
-  four = s + 65536 * (d + 512 * (c + 131072 * p))
-
-  four0 : four % 65536 ≡ s
-  four0 = omega arith
-
-  four1 : four / 65536 % 512 ≡ d
-  four1 = omega arith
-
-  four2 : four / 33554432 % 131072 ≡ c
-  four2 = omega arith
-
-  four3 : four / 4398046511104 % 131072 ≡ p
-  four3 = omega arith
-
-module _ (e n w : ℕ) (he : e < 512) (hn : n < 256) (hw : w < 4294967296) where
-  abbrev three : ℕ
-  three = 1 + 2 * (e + 512 * (n + 256 * w))
-
-  three0 : three % 2 ≡ 1
-  three0 = omega arith
-
-  three1 : three / 2 % 512 ≡ e
-  three1 = omega arith
-
-  three2 : three / 1024 % 256 ≡ n
-  three2 = omega arith
-
-  three3 : three / 262144 % 4294967296 ≡ w
-  three3 = omega arith
-
-pub ack-back : (k : AckKey) (wait : ℕ) {dr cr pr er : ℕ} → k.src < 65536 → k.counter < 256 → wait < 4294967296
-    → Coded opt8_word opt8_from 512 k.destination_endpoint dr → Coded opt16_word opt16_from 131072 k.cluster_id cr
-    → Coded opt16_word opt16_from 131072 k.profile_id pr → Coded opt8_word opt8_from 512 k.source_endpoint er
-    → CodedConfirm (ApsAck k wait) (record { first = k.src + 65536 * (dr + 512 * (cr + 131072 * pr)); second = 1 + 2 * (er + 512 * (k.counter + 256 * wait)) })
-ack-back k wait hs hn hw d c p e =
-    let dw : ℕ = opt8_word k.destination_endpoint in
-    let cw : ℕ = opt16_word k.cluster_id in
-    let pw : ℕ = opt16_word k.profile_id in
-    let ew : ℕ = opt8_word k.source_endpoint in
-    let f0 = four0 k.src dw cw pw hs d.low c.low p.low in
-    let f1 = ap opt8_from (four1 k.src dw cw pw hs d.low c.low p.low) ∙ d.back in
-    let f2 = ap opt16_from (four2 k.src dw cw pw hs d.low c.low p.low) ∙ c.back in
-    let f3 = ap opt16_from (four3 k.src dw cw pw hs d.low c.low p.low) ∙ p.back in
-    let t1 = ap opt8_from (three1 ew k.counter wait e.low hn hw) ∙ e.back in
-    let t2 = three2 ew k.counter wait e.low hn hw in
-    let t3 = three3 ew k.counter wait e.low hn hw in
-    let key : ack_key_from (ack_first k) (ack_second k wait) ≡ k =
-    λ i. record {
-      src = f0 i;
-      destination_endpoint = f1 i;
-      cluster_id = f2 i;
-      profile_id = f3 i;
-      source_endpoint = t1 i;
-      counter = t2 i;
-    } in
-    let back : confirm_from (ack_first k) (ack_second k wait) ≡ ApsAck k wait =
-    ap (λ (m : ℕ). pick (eqb m 0) OnHandoff (ApsAck (ack_key_from (ack_first k) (ack_second k wait)) (ack_second k wait / 262144 % 4294967296)))
-    (three0 ew k.counter wait e.low hn hw)
-    ∙ ap₂ ApsAck key t3 in
-    record {
-      is = λ i. record { first = k.src + 65536 * (d.is i + 512 * (c.is i + 131072 * p.is i)); second = 1 + 2 * (e.is i + 512 * (k.counter + 256 * wait)) };
-      back = back;
-    }

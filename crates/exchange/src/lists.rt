@@ -11,7 +11,6 @@ ghost use Rattle.exchange.specs.Answering.{Answering};
 ghost use Rattle.exchange.specs.Gathered.{Gathered, Few, Roomy, gathered_items, gathered_long, listed_items};
 
 use lent::lists;
-use lent::lists::Matched;
 use model::Counts;
 use sending::Book;
 
@@ -38,10 +37,7 @@ fn members(
     requires map_sound { MapSound eui.now nwk.now pairs }
     ensures { Filled 0 (members_of book (take pairs eui.now) (take pairs nwk.now) (live unicast_table w.now n)) set.old set.new result }
 {
-    match lists::poll_addresses(w, n, book, &eui[..pairs], &nwk[..pairs], set) {
-        Matched::MapBarred => 0,
-        Matched::Members(m) => m,
-    }
+    lists::poll_addresses(w, n, book, &eui[..pairs], &nwk[..pairs], set).unwrap_or(0)
 }
 
 // Each list into its array.

@@ -22,6 +22,3 @@ le-more m n at s h =
     let l : m ≤ length (drop at s) = simp length-drop (omega arith) in
     ap le (take-add m n (drop at s)) ∙ le-append (take m (drop at s)) (take n (drop m (drop at s)))
     ∙ ap₂ (λ (k : ℕ) (r : List ℕ). le (take m (drop at s)) + 256 ^ k * le (take n r)) (length-take-le m (drop at s) l) (drop-drop m at s)
-
-pub le-one : (at : ℕ) (s : List ℕ) → at < length s → get_or s at 0 ≡ le (take 1 (drop at s))
-le-one at s h = sym (ap (λ (l : List ℕ). le (take 1 l)) (drop-cons s at 0 h) ∙ add-zero (get_or s at 0))

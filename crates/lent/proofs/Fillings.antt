@@ -27,7 +27,6 @@ use Rattle.model.specs.Calls.{only}
 use Rattle.model.specs.Steps.{adding, members_of}
 use Rattle.model.proofs.Kepts.{insert-length}
 use Rattle.doing.specs.Types.{QuorumKey, Unicast, Book}
-use Rattle.lent.specs.declared.lists.Matched.TheVariants.{MapBarred, Members}
 use Rattle.lent.specs.Fills.{Filled, Matching}
 use Rattle.lent.proofs.Listings.{held_cons, held-done}
 
@@ -74,10 +73,6 @@ module _ {x : Option QuorumKey} (out : List ℕ) (m : ℕ) where
 
   pub fill-key : {v : ℕ} (k : QuorumKey) → x ≡ Some k → v ≡ quorum_word k → Filled m (map quorum_word (listed x [])) out (set out m v) (m + 1)
   fill-key k e q = rw (e, q) (record { words = refl; next = refl })
-
-pub key-low : (x : Option QuorumKey) → length (map quorum_word (listed x [])) ≤ 1
-key-low None = omega arith
-key-low (Some k) = omega arith
 
 module _ {ws : List ℕ} {n : ℕ} (h : Held broadcast_table ws n) (i : ℕ) where
   pub keys-left : (x : Option QuorumKey) → i < n → x ≡ awaited_head (broadcast_head (row_at ws i))
@@ -244,8 +239,8 @@ module _ (book : Book) (es ns : List ℕ) (us : List Unicast) (last : Option ℕ
   next-none e = head-none (after last (members_of book es ns us)) (e ∙ next-head book es ns last us)
 
 module _ {book : Book} {es ns : List ℕ} {us : List Unicast} {out : List ℕ} where
-  pub matches : {out' : List ℕ} {r : ℕ} → map_fits es ns ≡ true → Filled 0 (members_of book es ns us) out out' r → Matching book es ns us out out' (Members r)
-  matches e f = record { answer = rw e (ap Members (f.next ∙ zero-add (length (members_of book es ns us)))); words = rw e f.words }
+  pub matches : {out' : List ℕ} {r : ℕ} → map_fits es ns ≡ true → Filled 0 (members_of book es ns us) out out' r → Matching book es ns us out out' (Some r)
+  matches e f = record { answer = rw e (ap Some (f.next ∙ zero-add (length (members_of book es ns us)))); words = rw e f.words }
 
-  pub barred : map_fits es ns ≡ false → Matching book es ns us out out MapBarred
+  pub barred : map_fits es ns ≡ false → Matching book es ns us out out None
   barred e = record { answer = rw e; words = rw e }

@@ -15,13 +15,6 @@ use records::{Broadcast, Entry, QuorumKey, Unicast, Unrouted};
 use scanning::sets;
 use sending::Book;
 
-// The slices are no address map, or how many members the set has.
-#[derive(Clone, Copy)]
-pub enum Matched {
-    MapBarred,
-    Members(usize),
-}
-
 // Lists one send: its id and its waiter.
 fn list_one(list: &mut [u64; 128], at: usize, e: Entry)
     requires { at < 64 }
@@ -143,13 +136,13 @@ pub fn poll_addresses(
     eui: &[u64],
     nwk: &[u16],
     out: &mut [u64; 32],
-) -> Matched
+) -> Option<usize>
     requires { Held unicast_table w.now n }
     ensures { Matching book eui.now nwk.now (live unicast_table w.now n) out.old out.new result }
 {
     if sets::map_fits(eui, nwk) {
-        Matched::Members(members(w, n, book, eui, nwk, out))
+        Some(members(w, n, book, eui, nwk, out))
     } else {
-        Matched::MapBarred
+        None
     }
 }

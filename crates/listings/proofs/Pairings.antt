@@ -425,20 +425,3 @@ above-none x q (k ∷ ks) (m ∷ ms) l h =
 rises-tail : (k : ℕ) (ks : List ℕ) → rises_after k ks ≡ true → rises_all ks ≡ true
 rises-tail k [] h = refl
 rises-tail k (j ∷ ks) h = (pick-both (ltb k j) (rises_after j ks) h).1
-
-pub absent_none : (x : ℕ) (ks ms : List ℕ) → rises_all ks ≡ true → is_there x ks ≡ false → mapped_in x ks ms ≡ None
-absent_none x [] ms h t = refl
-absent_none x (k ∷ ks) [] h t = refl
-absent_none x (k ∷ ks) (m ∷ ms) h t = by-test (ltb k x) refl (λ u. absent_none x ks ms (rises-tail k ks h) u)
-  where
-    by-test : (b : Bool) → ltb k x ≡ b → (is_there x ks ≡ false → mapped_in x ks ms ≡ None) → mapped_in x (k ∷ ks) (m ∷ ms) ≡ None
-    by-test true e ih =
-        let a = ltb-true k x e in
-        let g : eqb k x ≡ false = ne_eqb k x (λ q. absurd (omega arith)) in
-        rw g (ih (rw e at t))
-    by-test false e ih =
-        let f : eqb k x ≡ false = rw e at t in
-        let a = ltb-false k x e in
-        let n : k ≡ x → ⊥ = eqb-false k x f in
-        let l : x < k = omega (arith, n) in
-        rw f (above-none x k ks ms l h)

@@ -77,10 +77,6 @@ module _ {is : List Item} {n at₀ : ℕ} {out₀ out : List ℕ} {at i : ℕ} (
 
 -- ---- the items of the first n numbers
 
--- how many
-pub map-count : (f : ℕ → Item) (xs : List ℕ) (n : ℕ) → n ≤ length xs → n ≡ length (map f (take n xs))
-map-count f xs n h = sym (length-map (take n xs) f ∙ length-take-le n xs h)
-
 -- which
 map-item : (f : ℕ → Item) (ks : List ℕ) (i : ℕ) → i < length ks → get_or (map f ks) i Done ≡ f (get_or ks i 0)
 map-item f [] i l = absurd (omega arith)
@@ -154,12 +150,6 @@ abandoned-long (x ∷ y ∷ xs) (suc n) h =
     ap (λ (is : List Item). length (items_bytes is)) (two-step x y xs n) ∙ v ∙ omega arith
 
 -- ---- the next wake
-
-pub wake-some : {o : Option ℕ} {t : ℕ} → o ≡ Some t → item_bytes (Time t) ≡ items_bytes (wake_items o)
-wake-some {o} {t} e = sym (items-one (Time t)) ∙ ap (λ (p : Option ℕ). items_bytes (wake_items p)) (sym e)
-
-pub wake-none : {o : Option ℕ} (at : ℕ) (out : List ℕ) → o ≡ None → Written at (items_bytes (wake_items o)) out out at
-wake-none at out e = written_as (ap (λ (p : Option ℕ). items_bytes (wake_items p)) (sym e)) (written-nothing at out)
 
 -- nothing, or 9
 pub wake-long : (t : ℕ) → length (items_bytes (wake_items (Some t))) ≡ 9

@@ -96,13 +96,6 @@ module _ {told : List ℕ} {n at₀ : ℕ} {out₀ out : List ℕ} {at i : ℕ} 
 
 -- ---- the whole reply
 
--- an answer that is one item, or none
-pub answer-one : {a b : Answer} {i : Item} → a ≡ b → answer_items b ≡ i ∷ [] → item_bytes i ≡ items_bytes (answer_items a)
-answer-one {a} {b} {i} e f = sym (items-one i) ∙ ap items_bytes (sym f) ∙ ap (λ (x : Answer). items_bytes (answer_items x)) (sym e)
-
-pub answer-none : {a b : Answer} (at : ℕ) (out : List ℕ) → a ≡ b → answer_items b ≡ [] → Written at (items_bytes (answer_items a)) out out at
-answer-none at out e f = written_as (ap items_bytes (sym f) ∙ ap (λ (x : Answer). items_bytes (answer_items x)) (sym e)) (written-nothing at out)
-
 pub flight-one : (id frame : ℕ) (t : Transmit) → length (items_bytes (answer_items (InFlight id frame t))) ≡ 13
 flight-one id frame t = ap length (items-one (Flight id frame t)) ∙ flight-long id frame t
 
@@ -144,15 +137,3 @@ reply-long a acts e =
     let q = length-append x (y ++ item_bytes Done) in
     let r = length-append y (item_bytes Done) in
     p ∙ q ∙ ap (λ (k : ℕ). length x + k) r ∙ omega arith
-
--- the answer first: it fits where the reply does
-pub first_fits : (a : Answer) (acts : List Action) → length (items_bytes (answer_items a)) ≤ length (reply_bytes a acts)
-first_fits a acts = by-test (denies a) refl
-  where
-    by-test : (b : Bool) → denies a ≡ b → length (items_bytes (answer_items a)) ≤ length (reply_bytes a acts)
-    by-test true e =
-        let f = ap length (reply-alone a acts e) in
-        omega arith
-    by-test false e =
-        let f = reply-long a acts e in
-        omega arith

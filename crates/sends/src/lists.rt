@@ -8,7 +8,6 @@ ghost use Rattle.model.specs.Sound.{Sound};
 ghost use Rattle.lent.specs.Fills.{Filled, Matching};
 ghost use Rattle.sends.specs.Lists.{emptied_of, Left};
 
-use lent::lists::Matched;
 use lent::{ends, lists};
 use model::{Emptied, Sends};
 use sending::Book;
@@ -60,7 +59,7 @@ pub fn poll_addresses(
     eui: &[u64],
     nwk: &[u16],
     out: &mut [u64; 32],
-) -> Matched
+) -> Option<usize>
     requires { Sound s }
     ensures { Matching book eui.now nwk.now (model_of s).unicasts out.old out.new result }
 {
