@@ -69,6 +69,7 @@ pub fn settle_again(
     settle(told, m, e, v, hop)
 }
 
+// The numbers are digits of the buffer's words, in fixed memory: here they become enums.
 fn failure_of(number: u64, tag: u64, address: u64) -> SendFailure
     ensures { result ≡ failure_from number (address_from tag address) }
 {

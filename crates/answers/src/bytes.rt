@@ -1,4 +1,5 @@
-// Bytes and numbers written into a lent output from a place on, a number's lower byte first. Each writer answers the next place.
+// Bytes and numbers written into a lent output from a place on, a number's lower byte first. Each writer answers the next place. A kind
+// is here the byte that docs/TRACE.md gives it, and no value of the program's.
 ghost use Rattle.std.specs.Prelude.{[], ◌∷◌, ◌++◌, ◌+◌, ◌≤◌, length};
 ghost use Rattle.answers.specs.Bytes.{le_bytes, Written};
 

@@ -13,7 +13,8 @@ pub mod bytes;
 pub mod parts;
 
 // One answer, in the order of the kinds 128 to 141: what the contracts speak of, no code makes one. Handoff, settlement and
-// abandonment name the send and the one that waits for it; the end has the run's status and the bytes consumed.
+// abandonment name the send and the one that waits for it; the end has the run's status and the bytes consumed. (No Result: a refusal
+// is one answer among fourteen.)
 #[derive(Clone, Copy)]
 pub enum Item {
     Refused(Refusal),

@@ -6,7 +6,8 @@ ghost use Rattle.clock.specs.Lent.{clock_of, told_of, numbers_of, clock_at};
 use crate::Clock;
 use records::Refusal;
 
-// What the holder of a lent clock is told, in numbers: the refusal's number or 0, and where the clock stands.
+// What the holder of a lent clock is told, in numbers: the refusal's number or 0, and where the clock stands. (`advance_numbers` promises
+// numbers, to callers that have nothing else; `advance_lent` beside it answers a Result.)
 #[derive(Clone, Copy)]
 pub struct Numbers {
     pub refusal: u8,

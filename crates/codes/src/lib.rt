@@ -1,5 +1,5 @@
 // The parts of a record as numbers, and back: optional numbers, levels, addresses, stages, schedules and what confirms a send. For
-// the layouts of records and actions in words alone.
+// the layouts of records and actions in words alone: a tag is a digit of a word in fixed memory, and becomes an enum here.
 #![tactic(auto)]
 
 ghost use Rattle.std.specs.Prelude.{◌≡◌, ℕ, ◌<◌, ◌≤◌, ◌*◌, ◌%◌};

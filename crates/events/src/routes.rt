@@ -19,6 +19,7 @@ fn unreached_by(hop: u16, address: Address, code: u16) -> Option<Resolved>
     }
 }
 
+// The tag is a byte of the trace: here it becomes a result, or none.
 fn resolved_by(tag: u8, hop: u16, address: Address, code: u16) -> Option<Resolved>
     ensures { result ≡ resolved_by tag hop address code }
 {

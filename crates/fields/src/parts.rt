@@ -1,4 +1,5 @@
-// The parts of a body that may be outside their form: an absent part must be zero, a flag 0 or 1, a tag one of its own.
+// The parts of a body that may be outside their form: an absent part must be zero, a flag 0 or 1, a tag one of its own. Flags and tags are
+// bytes of a trace (docs/TRACE.md): here each becomes an enum or an Option, or nothing.
 ghost use Rattle.std.specs.Prelude.{◌≡◌, ◌+◌, ◌≤◌, length, eqb, [], ◌∷◌};
 ghost use Rattle.fields.specs.Bytes.{number};
 ghost use Rattle.fields.specs.Parts.{opt_by, opt8_by, opt16_by, priority_by, address_by, address_at, key_with, key_at, confirm_with, confirm_at, result_by, lender_by, all_zero, schedule_by, schedule_at};

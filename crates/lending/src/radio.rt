@@ -64,6 +64,9 @@ fn cast(id: u32, x: Option<u32>) -> Answer
     }
 }
 
+// Here and at the reports the two tables have functions of their own: over both one would take the calls as closures over six lent
+// arrays.
+
 // The unicast with that id goes to the radio.
 fn lend_unicast(
     c: Counts,

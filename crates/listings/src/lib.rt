@@ -1,5 +1,6 @@
 // What a trace answers beside the tables' calls: a list of numbers out of a lent array, one item for each of its first n places.
-// Each writer answers the next place; all else of the output stays.
+// Each writer answers the next place; all else of the output stays. One loop for all would take a closure that writes the output and
+// a list of items in its contract; two lines for each are plainer.
 #![tactic(auto)]
 
 ghost use Rattle.std.specs.Prelude.{◌+◌, ◌*◌, ◌≤◌, length};

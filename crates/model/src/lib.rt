@@ -42,7 +42,8 @@ pub enum Lender {
     FromBroadcasts,
 }
 
-// How a frame goes out: to a next hop, and whether another frame is pending for the device; or to all.
+// How a frame goes out: to a next hop, and whether another frame is pending for the device; or to all. (As in the Rust; an Option
+// would leave the second way without a name.)
 #[derive(Clone, Copy)]
 pub enum Transmit {
     Unicasting(u16, bool),
@@ -50,7 +51,8 @@ pub enum Transmit {
 }
 
 // What a call answers: why it is denied; that it is done; the id of the new send; yes or no; that nothing is queued; or the
-// send that goes to the radio, with its frame.
+// send that goes to the radio, with its frame. (No Result: a denial is one of the answers, and theorems as denied-exactly speak of
+// it among them.)
 #[derive(Clone, Copy)]
 pub enum Answer {
     Denied(Refusal),

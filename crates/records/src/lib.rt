@@ -36,7 +36,8 @@ pub struct AckKey {
     pub counter: u8,
 }
 
-// What settles a unicast: its handoff, or an ack with that key, waited for that long after the handoff.
+// What settles a unicast: its handoff, or an ack with that key, waited for that long after the handoff. (As in the Rust; an Option
+// would leave the first without a name.)
 #[derive(Clone, Copy, PartialEq, Eq)]
 pub enum Confirm {
     OnHandoff,

@@ -1,5 +1,6 @@
 // The calls over the send tables by value: each takes the tables and gives them back with its answer, its actions told into a lent
-// buffer. No logic: each lends its tables to the call of `lent` with its name.
+// buffer. No logic: each lends its tables to the call of `lent` with its name. They look alike since only the call and its contract differ,
+// which is what callers rely on by name.
 #![tactic(auto)]
 
 ghost use Rattle.std.specs.Prelude.{◌≡◌};

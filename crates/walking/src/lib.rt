@@ -52,6 +52,7 @@ pub fn walk(trace: &[u8], out: &mut [u8]) -> usize
     let mut pairs = 0;
     let mut at = 0;
     let mut o = 0;
+    // nothing is counted: each record says where the next one starts, and the loop ends where none does
     loop {
         match reader::stands_at(trace, at) {
             Standing::End => return end(out, o, 0, at),
