@@ -62,11 +62,8 @@ pub fn settle_again(
     requires { m + 2 ≤ 112 }
     ensures { Told m (settling e again v hop) told.old told.new result }
 {
-    if again {
-        let next = hand_off(told, m, e);
-        return settle(told, next, e, v, hop);
-    }
-    settle(told, m, e, v, hop)
+    let next = if again { hand_off(told, m, e) } else { m };
+    settle(told, next, e, v, hop)
 }
 
 // The numbers are digits of the buffer's words, in fixed memory: here they become enums.
@@ -86,13 +83,11 @@ fn failure_of(number: u64, tag: u64, address: u64) -> SendFailure
 fn verdict_of(number: u64, tag: u64, address: u64, code: u64) -> Verdict
     ensures { result ≡ verdict_from number (address_from tag address) (code % 65536) }
 {
-    if number == 0 {
-        return Verdict::Success;
+    match number {
+        0 => Verdict::Success,
+        7 => Verdict::Code((code % 65536) as u16),
+        _ => Verdict::Failure(failure_of(number, tag, address)),
     }
-    if number == 7 {
-        return Verdict::Code((code % 65536) as u16);
-    }
-    Verdict::Failure(failure_of(number, tag, address))
 }
 
 fn action_of(id: u64, waiter: u64, frame: u64, tags: u64, address: u64) -> Action

@@ -32,7 +32,8 @@ pub fn fresh(reading: u32, time: u64) -> Result<Clock, Refusal>
     })
 }
 
-// One reading more; a clock that refuses it comes back as it was. What is left up to 2^62 is compared before the sum is made, so that no sum can wrap and any clock is taken.
+// One reading more; a clock that refuses it comes back as it was. What is left up to 2^62 is compared before the sum is made, so
+// that no sum can wrap and any clock is taken.
 pub fn advance(c: Clock, reading: u32) -> Result<Clock, (Refusal, Clock)>
     ensures { result ≡ advance_of c reading }
 {

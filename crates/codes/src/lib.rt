@@ -310,13 +310,13 @@ pub struct Two {
 pub fn ack_words(k: AckKey, wait: u32) -> Two
     ensures { CodedConfirm (ApsAck k wait) result }
 {
-    let d = k.destination_endpoint;
-    let c = k.cluster_id;
-    let p = k.profile_id;
-    let s = k.source_endpoint;
     Two {
-        first: k.src as u64 + 65536 * (opt_word(d) + 512 * (opt_word(c) + 131072 * opt_word(p))),
-        second: 1 + 2 * (opt_word(s) + 512 * (k.counter as u64 + 256 * (wait as u64))),
+        first: k.src as u64
+            + 65536
+                * (opt_word(k.destination_endpoint)
+                    + 512 * (opt_word(k.cluster_id) + 131072 * opt_word(k.profile_id))),
+        second: 1
+            + 2 * (opt_word(k.source_endpoint) + 512 * (k.counter as u64 + 256 * (wait as u64))),
     }
 }
 
@@ -335,16 +335,12 @@ pub fn confirm_words(c: Confirm) -> Two
 pub fn ack_key_of(first: u64, second: u64) -> AckKey
     ensures { result ≡ ack_key_from first second }
 {
-    let d = opt_of(first / 65536 % 512);
-    let c = opt_of(first / 33554432 % 131072);
-    let p = opt_of(first / 4398046511104 % 131072);
-    let s = opt_of(second / 2 % 512);
     AckKey {
         src: (first % 65536) as u16,
-        destination_endpoint: d,
-        cluster_id: c,
-        profile_id: p,
-        source_endpoint: s,
+        destination_endpoint: opt_of(first / 65536 % 512),
+        cluster_id: opt_of(first / 33554432 % 131072),
+        profile_id: opt_of(first / 4398046511104 % 131072),
+        source_endpoint: opt_of(second / 2 % 512),
         counter: (second / 1024 % 256) as u8,
     }
 }

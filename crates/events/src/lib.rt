@@ -1,17 +1,13 @@
 // The events of a trace: an event out of a record's body.
 #![tactic(auto)]
 
-use model::{Lender, NewBroadcast, NewUnicast, NewUnrouted, Resolved};
+use model::{Lender, NewBroadcast, NewUnicast, NewUnrouted};
 use records::{AckKey, Address, QuorumKey, Settings, TxResult};
 
 pub mod arrivals;
 pub mod decode;
 pub mod routes;
 pub mod signals;
-
-// ---- what has parts of its own: what was read, or that it is outside its form
-
-// ---- events
 
 // An event by its kind, 1 to 22, with what its call takes; or that its record is outside its form, which is refusal 14. The
 // sixteen results of a route stand beside it (routes::route_results).

@@ -2,7 +2,7 @@
 ghost use Rattle.std.specs.Prelude.{◌≡◌, ◌-◌, ◌≤◌, length, take, drop};
 ghost use Rattle.framing.specs.Reader.{stands_at};
 
-use crate::Standing;
+use crate::{Standing, kinds};
 
 pub fn stands_at(trace: &[u8], at: usize) -> Standing
     ensures { result ≡ stands_at trace.now at }
@@ -11,15 +11,11 @@ pub fn stands_at(trace: &[u8], at: usize) -> Standing
         return Standing::End;
     }
     let kind = trace[at];
-    if kind == 0 {
+    if kind == 0 || 22 < kind {
         return Standing::Unknown;
     }
-    if 22 < kind {
-        return Standing::Unknown;
-    }
-    let n = crate::kinds::body_length(kind);
     let start = at + 1;
-    let next = start + n as usize;
+    let next = start + usize::from(kinds::body_length(kind));
     if trace.len() < next {
         return Standing::Cut;
     }

@@ -195,10 +195,7 @@ fn over_verdict(s: Schedule) -> Verdict
 fn last_verdict(e: Option<u16>) -> Verdict
     ensures { result ≡ last_verdict e }
 {
-    match e {
-        None => Verdict::Code(0),
-        Some(code) => Verdict::Code(code),
-    }
+    Verdict::Code(e.unwrap_or(0))
 }
 
 // No copy is left.

@@ -193,7 +193,7 @@ pub length-rows_of : {A : Type 0} (t : Table A) (ws : List ℕ) → length (rows
 unfolding rows_of
 length-rows_of t ws = length-rows t.layout.width t.layout.record_of t.room ws
 
--- what find answers says what was found
+-- what find answers says what was found: it answers with the list's own option
 pub here-some : (o : Option ℕ) (i : ℕ) → Some i ≡ o → o ≡ Some i
 here-some o i e = sym e
 

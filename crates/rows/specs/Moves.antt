@@ -1,6 +1,6 @@
 -- The four moves: every change that a call makes to a table of sends. Every record has its turn (each), the first with a test has it (at_first), one
--- enters under its id (insert_by, in Lists), or all go ([]). A turn, a `Turn` of src/lib.rt, says what becomes of one record; the move says what becomes of the table and, with
--- the id and the handles of the record in it, what is told.
+-- enters under its id (insert_by, in Lists), or all go ([]). A turn, a `Turn` of src/lib.rt, says what becomes of one record; the move says what
+-- becomes of the table and, with the id and the handles of the record in it, what is told.
 use Rattle.std.specs.Prelude.{ℕ, suc, ◌+◌, ◌≡◌, Bool, true, false, List, [], ◌∷◌, ◌++◌, set, eqb, Option, None, Some, option_map}
 use Rattle.records.specs.Pick.{pick, bit}
 use Rattle.rows.specs.Lists.{remove_at}

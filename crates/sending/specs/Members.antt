@@ -71,7 +71,7 @@ abbrev pub next_member : Book → List ℕ → List ℕ → Option ℕ → List 
 next_member book es ns last us = least_of (member_of book es ns) last us
 
 -- 11 where the slices are no address map
-abbrev pub listing_of : Bool → Option ℕ → (Result (Option ℕ) Refusal)
-listing_of true None = (Ok None)
+abbrev pub listing_of : Bool → Option ℕ → Result (Option ℕ) Refusal
+listing_of true None = Ok None
 listing_of true (Some x) = Ok (Some x)
 listing_of false o = Err MapMalformed

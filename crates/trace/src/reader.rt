@@ -62,6 +62,7 @@ pub fn count_records(trace: &[u8]) -> usize
 {
     let mut at = 0;
     let mut n = 0;
+    // a while: each record says where the next one starts
     while let Standing::Record { next, .. } = standing_at(trace, at) {
         at = next;
         n += 1;

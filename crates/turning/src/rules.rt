@@ -28,10 +28,7 @@ fn stage_for(a: Address) -> Stage
 fn sent_by(d: u64, given: Option<u64>) -> u64
     ensures { result ≡ sent_by d given }
 {
-    match given {
-        None => d,
-        Some(t) => t,
-    }
+    given.unwrap_or(d)
 }
 
 fn polled_by(d: u64, given: Option<u64>) -> u64

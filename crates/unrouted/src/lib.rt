@@ -1,7 +1,7 @@
 // The rules of unicasts with no route yet: on one send, and on the two lent tables of sends and of held destinations.
 #![tactic(auto)]
 
-ghost use Rattle.std.specs.Prelude.{◌≡◌, true, false, ◌+◌, ◌*◌, ◌-◌, ◌≤◌, ◌<◌, get_or, None};
+ghost use Rattle.std.specs.Prelude.{◌≡◌, false, ◌+◌, ◌*◌, ◌-◌, ◌≤◌, ◌<◌, get_or, None};
 ghost use Rattle.records.specs.Limits.{last_time};
 ghost use Rattle.records.specs.Pick.{bit};
 ghost use Rattle.records.specs.Records.{unrouted_id, unrouted_entry, blank_unrouted, blank_destination, destination_address};
@@ -27,7 +27,7 @@ pub enum Which {
     Bound(u16),
 }
 
-// The same, and how many destinations are held.
+// How many sends and held destinations are left, and the next place in the buffer.
 #[derive(Clone, Copy)]
 pub struct Failed {
     pub sends: usize,
