@@ -4,7 +4,7 @@ ghost use Rattle.events.specs.Signals.{settings_in, settings_of, dequeue_of, rep
 
 use crate::Event;
 use fields::numbers::{byte_at, u16_at, u32_at, u64_at};
-use fields::parts::{address_at, key_at, lender_by, opt_by, result_by};
+use fields::parts::{address_at, key_at, lender_by, opt16_by, opt64_by, result_by};
 use model::Lender;
 use records::{Address, QuorumKey, Settings, TxResult};
 
@@ -92,10 +92,8 @@ pub fn decode_poll(b: &[u8]) -> Event
     ensures { result ≡ poll_of b.now }
 {
     let clock = u64_at(b, 0);
-    let eui = u64_at(b, 9);
-    let extended = opt_by(byte_at(b, 8), eui, eui == 0);
-    let nwk = u16_at(b, 18);
-    let short = opt_by(byte_at(b, 17), nwk, nwk == 0);
+    let extended = opt64_by(byte_at(b, 8), u64_at(b, 9));
+    let short = opt16_by(byte_at(b, 17), u16_at(b, 18));
     poll_with(clock, extended, short)
 }
 
@@ -137,8 +135,7 @@ pub fn decode_drop(b: &[u8]) -> Event
     ensures { result ≡ drop_of b.now }
 {
     let short = u16_at(b, 9);
-    let extended = u64_at(b, 1);
-    match opt_by(byte_at(b, 0), extended, extended == 0) {
+    match opt64_by(byte_at(b, 0), u64_at(b, 1)) {
         Some(eui) => Event::OnDrop(eui, short),
         None => Event::Malformed,
     }

@@ -2,7 +2,7 @@
 // bytes of a trace (docs/TRACE.md): here each becomes an enum or an Option, or nothing.
 ghost use Rattle.std.specs.Prelude.{◌≡◌, ◌+◌, ◌≤◌, length, eqb, [], ◌∷◌};
 ghost use Rattle.fields.specs.Bytes.{number};
-ghost use Rattle.fields.specs.Parts.{opt_by, opt8_by, opt16_by, priority_by, address_by, address_at, key_with, key_at, confirm_with, confirm_at, result_by, lender_by, all_zero, schedule_by, schedule_at};
+ghost use Rattle.fields.specs.Parts.{opt_by, opt8_by, opt16_by, opt64_by, priority_by, address_by, address_at, key_with, key_at, confirm_with, confirm_at, result_by, lender_by, all_zero, schedule_by, schedule_at};
 
 use crate::numbers::{byte_at, u16_at, u32_at, u64_at};
 use model::Lender;
@@ -18,6 +18,24 @@ pub fn opt_by<T: Copy>(flag: u8, x: T, blank: bool) -> Option<Option<T>>
         1 => Some(Some(x)),
         _ => None,
     }
+}
+
+pub(crate) fn opt8_by(flag: u8, b: u8) -> Option<Option<u8>>
+    ensures { result ≡ opt8_by flag b }
+{
+    opt_by(flag, b, b == 0)
+}
+
+pub fn opt16_by(flag: u8, n: u16) -> Option<Option<u16>>
+    ensures { result ≡ opt16_by flag n }
+{
+    opt_by(flag, n, n == 0)
+}
+
+pub fn opt64_by(flag: u8, x: u64) -> Option<Option<u64>>
+    ensures { result ≡ opt64_by flag x }
+{
+    opt_by(flag, x, x == 0)
 }
 
 // ---- a level, an address
@@ -77,18 +95,6 @@ pub(crate) fn key_with(
     })
 }
 
-fn byte_by(flag: u8, x: u8) -> Option<Option<u8>>
-    ensures { result ≡ opt8_by flag x }
-{
-    opt_by(flag, x, x == 0)
-}
-
-fn pair_by(flag: u8, x: u16) -> Option<Option<u16>>
-    ensures { result ≡ opt16_by flag x }
-{
-    opt_by(flag, x, x == 0)
-}
-
 pub fn key_at(b: &[u8], at: usize) -> Option<AckKey>
     requires { at + 10 ≤ length b.now }
     ensures { result ≡ key_at at b.now }
@@ -98,10 +104,10 @@ pub fn key_at(b: &[u8], at: usize) -> Option<AckKey>
         return None;
     }
     let src = u16_at(b, at + 1);
-    let destination = byte_by(bits % 2, byte_at(b, at + 3));
-    let cluster = pair_by(bits / 2 % 2, u16_at(b, at + 4));
-    let profile = pair_by(bits / 4 % 2, u16_at(b, at + 6));
-    let source = byte_by(bits / 8 % 2, byte_at(b, at + 8));
+    let destination = opt8_by(bits % 2, byte_at(b, at + 3));
+    let cluster = opt16_by(bits / 2 % 2, u16_at(b, at + 4));
+    let profile = opt16_by(bits / 4 % 2, u16_at(b, at + 6));
+    let source = opt8_by(bits / 8 % 2, byte_at(b, at + 8));
     key_with(
         src,
         destination,

@@ -6,10 +6,10 @@ use Rattle.events.proofs.signals.decode_drop.Goals as goal
 
 pub returns-in-Some : goal.returns-in-Some
 unfolding drop_of
-returns-in-Some c = let e = c.opt_by.ensures ∙ ap₂ opt64_by c.byte_at.ensures c.u64_at-extended.ensures in
+returns-in-Some c = let e = c.opt64_by.ensures ∙ ap₂ opt64_by c.byte_at.ensures c.u64_at.ensures in
     rw (← e, c.in-Some.is) (ap (OnDrop c.in-Some.eui) c.u16_at-short.ensures)
 
 pub returns-in-None : goal.returns-in-None
 unfolding drop_of
-returns-in-None c = let e = c.opt_by.ensures ∙ ap₂ opt64_by c.byte_at.ensures c.u64_at-extended.ensures in
+returns-in-None c = let e = c.opt64_by.ensures ∙ ap₂ opt64_by c.byte_at.ensures c.u64_at.ensures in
     rw (← e, c.in-None.is)
