@@ -12,7 +12,7 @@ use Rattle.rows.specs.Tables.{rows_of, live, Held, Holds}
 use Rattle.rows.specs.Moves.{first_at, has_id}
 use Rattle.rows.specs.declared.Turn.{Turn}
 use Rattle.rows.specs.declared.Turn.TheVariants.{Keeps}
-use Rattle.rows.proofs.Promises.{hit-lt, hit-lookup, miss-lookup, find_first}
+use Rattle.rows.proofs.Promises.{here-some, nowhere-none, hit-lt, hit-lookup, miss-lookup, find_first}
 use Rattle.tables.specs.Layouts.{broadcast_table}
 use Rattle.actions.specs.Calls.{Played}
 use Rattle.actions.proofs.Sweeps.{turn-found, turn-missed}
@@ -47,10 +47,10 @@ module _ {ws : List ℕ} {n : ℕ} (h : Held broadcast_table ws n) (id : ℕ) wh
   -- there is none
   module _ (e : None ≡ find_by broadcast_id id (live broadcast_table ws n)) where
     pub missed-is : lookup broadcast_id id (live broadcast_table ws n) ≡ None
-    missed-is = miss-lookup h id (sym e)
+    missed-is = miss-lookup h id (nowhere-none _ e)
 
     pub missed_first : first_at (has_id broadcast_entry id) (live broadcast_table ws n) ≡ None
-    missed_first = sym (find_first broadcast_id id (live broadcast_table ws n)) ∙ sym e
+    missed_first = sym (find_first broadcast_id id (live broadcast_table ws n)) ∙ nowhere-none _ e
 
     pub missed-answer : {bar : Option Broadcast → Option Refusal} {f : Broadcast → Turn Broadcast} {buf : List ℕ} {m : ℕ} → bar None ≡ Some NoSuchSend
         → Answered id bar f ws n buf m ws buf (Err NoSuchSend)
@@ -63,14 +63,14 @@ module _ {ws : List ℕ} {n : ℕ} (h : Held broadcast_table ws n) (id : ℕ) wh
   -- it stands at place i, and is u
   module _ {i : ℕ} (e : Some i ≡ find_by broadcast_id id (live broadcast_table ws n)) where
     pub found_lt : i < n
-    found_lt = hit-lt h id i (sym e)
+    found_lt = hit-lt h id i (here-some _ i e)
 
     pub found_first : first_at (has_id broadcast_entry id) (live broadcast_table ws n) ≡ Some i
-    found_first = sym (find_first broadcast_id id (live broadcast_table ws n)) ∙ sym e
+    found_first = sym (find_first broadcast_id id (live broadcast_table ws n)) ∙ here-some _ i e
 
     module _ {u : Broadcast} (l : u ≡ get_or (rows_of broadcast_table ws) i blank_broadcast) where
       pub found-is : lookup broadcast_id id (live broadcast_table ws n) ≡ Some u
-      found-is = hit-lookup h id i (sym e) ∙ ap Some (sym l)
+      found-is = hit-lookup h id i (here-some _ i e) ∙ ap Some (sym l)
 
       pub barred : {bar : Option Broadcast → Option Refusal} {f : Broadcast → Turn Broadcast} {buf : List ℕ} {m : ℕ} {x : Refusal} → bar (Some u) ≡ Some x
           → Answered id bar f ws n buf m ws buf (Err x)

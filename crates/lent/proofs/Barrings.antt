@@ -11,7 +11,7 @@ use Rattle.rows.specs.Lists.{find_by}
 use Rattle.rows.specs.Moves.{any_of}
 use Rattle.rows.specs.declared.Turn.{Turn}
 use Rattle.rows.specs.declared.Turn.TheVariants.{Keeps}
-use Rattle.rows.proofs.Promises.{find_first, first_found, first-missed}
+use Rattle.rows.proofs.Promises.{here-some, nowhere-none, find_first, first_found, first-missed}
 use Rattle.sending.specs.Rules.{sent_copy}
 use Rattle.broadcasts.specs.Calls.{Answered}
 use Rattle.casting.specs.Rules.{in_radio, cancel_bar}
@@ -37,10 +37,10 @@ module _ {bar : Option Broadcast → Option Refusal} {f : Broadcast → Turn Bro
 -- whether a search found a record is whether there is one
 module _ {A : Type 0} (key : A → ℕ) (k : ℕ) (xs : List A) {p : Option ℕ} (e : p ≡ find_by key k xs) where
   pub found-any : (d : A) (i : ℕ) → p ≡ Some i → any_of (λ (x : A). eqb (key x) k) xs ≡ true
-  found-any d i h = (first_found (λ (x : A). eqb (key x) k) Keeps d xs i (sym (find_first key k xs) ∙ (sym e ∙ h))).any
+  found-any d i h = (first_found (λ (x : A). eqb (key x) k) Keeps d xs i (sym (find_first key k xs) ∙ here-some _ i (sym h ∙ e))).any
 
   pub missed-any : p ≡ None → any_of (λ (x : A). eqb (key x) k) xs ≡ false
-  missed-any h = (first-missed (λ (x : A). eqb (key x) k) Keeps xs (sym (find_first key k xs) ∙ (sym e ∙ h))).any
+  missed-any h = (first-missed (λ (x : A). eqb (key x) k) Keeps xs (sym (find_first key k xs) ∙ nowhere-none _ (sym h ∙ e))).any
 
 -- a copy in the radio bars a cancel of the broadcast, where there is one; without one its own stage decides
 pub cast-sent : (id : ℕ) (us : List Unicast) (b : Broadcast) → any_of (sent_copy id) us ≡ true → cast_bar id us (Some b) ≡ Some InTheRadio

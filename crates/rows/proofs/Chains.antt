@@ -1,12 +1,14 @@
 -- What a chain of iterators over the places 0..n of a held table asks: the first with a test, whether there is one, how many there are, and a fold from
 -- the last place down. Over any kind of table. What a caller says of its closure is that it answers the test, at the record of each place. Assumes nothing.
-use Rattle.std.proofs.Common.{Option, None, Some, option_map, MatchOption}
+use Rattle.std.proofs.Common.{Option, None, Some, MatchOption}
 use Prim.Native.Nat.{ℕ, zero, suc, ◌+◌, ◌-◌, ◌≤◌, ◌<◌}
+use native.Mathlib.Numerals.{add-one}
+use native.Mathlib.Nat.{zero-add}
 use native.Mathlib.Omega.{arith}
 use mathlib.Core.Path.{◌≡◌, refl, sym, ap, subst, ◌∙◌}
 use mathlib.Core.Bool.{Bool, true, false, cond, ◌||◌}
-use mathlib.Core.List.{List, [], ◌∷◌, ◌++◌, map}
-use lib.ListN.{length, get_or}
+use mathlib.Core.List.{List, [], ◌∷◌, map}
+use lib.ListN.{length, drop, get_or}
 use Rattle.std.specs.declared.ops.Range.{Range}
 use Rattle.std.specs.declared.iter.Rev.{Rev}
 use Rattle.std.specs.Bool.{⊤}
@@ -22,12 +24,12 @@ use Rattle.std.proofs.lemmas.Iterator.Consumers.{YieldsList-from_shown, fold_fro
 use Rattle.std.proofs.lemmas.Iterator.Search.{any_from_yields_List}
 use denote.Param.Members.{Mut}
 use denote.Ref.{Bor}
-use Rattle.std.proofs.lemmas.List.FromFn.{fill_by_all, map-range_with_len_more}
+use Rattle.std.proofs.lemmas.List.FromFn.{fill_by_all}
 use Rattle.records.specs.Pick.{pick, bit}
 use Rattle.rows.specs.Lists.{fold}
 use Rattle.rows.specs.Tables.{Table, rows_of, live, Held}
-use Rattle.rows.specs.Moves.{first_at, any_of, count}
-use Rattle.rows.proofs.Promises.{held-length, held_at}
+use Rattle.rows.specs.Moves.{first_at, place_from, any_of, count}
+use Rattle.rows.proofs.Promises.{held-length, held_at, scan-first, scan-on, scan-here, scan-end, fold_start, fold-turn, fold_end}
 
 -- the numbers from a on, n of them, the last first
 abbrev pub falling : ℕ → ℕ → List ℕ
@@ -51,15 +53,6 @@ YieldsList-from_rev_range {s} a b n e f =
     subst (λ ks. YieldsList (rev_steps nat_range_steps_back) (λ x. x) s ks) g (yields_falling s)
 
 module _ {A : Type 0} (q : A → Bool) where
-  first-hit : (xs : List A) (d : A) (i : ℕ) → i < length xs → q (get_or xs i d) ≡ true → ((k : ℕ) → k < i → q (get_or xs k d) ≡ false) → first_at q xs ≡ Some i
-  first-hit [] d i l e b = absurd (omega arith)
-  first-hit (x ∷ xs) d zero l e b = rw e refl
-  first-hit (x ∷ xs) d (suc i) l e b = rw (b 0 (omega arith)) (ap (option_map suc) (first-hit xs d i (omega arith) e (λ k h. b (suc k) (omega arith))))
-
-  first-none : (xs : List A) (d : A) → ((k : ℕ) → k < length xs → q (get_or xs k d) ≡ false) → first_at q xs ≡ None
-  first-none [] d b = refl
-  first-none (x ∷ xs) d b = rw (b 0 (omega arith)) (ap (option_map suc) (first-none xs d (λ k h. b (suc k) (omega arith))))
-
   any-map : (g : ℕ → A) (ks : List ℕ) → list_any (λ k. q (g k)) ks ≡ any_of q (map g ks)
   any-map g [] = refl
   any-map g (k ∷ ks) = elim (q (g k)) as (λ b. (b || list_any (λ k. q (g k)) ks) ≡ pick b true (any_of q (map g ks))) [ true ↦ refl | false ↦ any-map g ks ]
@@ -73,18 +66,6 @@ module _ {A : Type 0} (q : A → Bool) where
         | false ↦ omega (arith, count-map g ks)
       ]
 
-module _ {A B : Type 0} (f : A → B → B) where
-  fold-last : (z : B) (xs : List A) (x : A) → fold f z (xs ++ (x ∷ [])) ≡ fold f (f x z) xs
-  fold-last z [] x = refl
-  fold-last z (y ∷ xs) x = ap (f y) (fold-last z xs x)
-
-  fold-falling : (g : ℕ → A) (n : ℕ) (z : B) → std.fold (λ b k. f (g k) b) z (falling 0 n) ≡ fold f z (map g (range_with_len 0 n))
-  fold-falling g zero z = refl
-  fold-falling g (suc n) z =
-      let e : suc n ≡ n + 1 = omega arith in
-      fold-falling g n (f (g (0 + n)) z) ∙ sym (fold-last z (map g (range_with_len 0 n)) (g (0 + n)))
-      ∙ ap (fold f z) (sym (map-range_with_len_more g 0 n (0 + n) refl) ∙ ap (λ m. map g (range_with_len 0 m)) (sym e))
-
 module _ {A : Type 0} {t : Table A} {ws : List ℕ} {n : ℕ} (h : Held t ws n) where
   abbrev row : ℕ → A
   row i = get_or (rows_of t ws) i t.blank
@@ -92,16 +73,20 @@ module _ {A : Type 0} {t : Table A} {ws : List ℕ} {n : ℕ} (h : Held t ws n) 
   live-made : live t ws n ≡ map row (range_with_len 0 n)
   live-made = fill_by_all row (live t ws n) n t.blank (held-length h) (λ k l. held_at h k t.blank l)
 
+  -- a scan has come to place k: every place before it was found without the test
+  come : (q : A → Bool) (k : ℕ) → k ≤ n → ((j : ℕ) → 0 ≤ j → j < k → q (row j) ≡ false) → place_from q k (drop k (live t ws n)) ≡ first_at q (live t ws n)
+  come q zero l b = scan-first q (live t ws n)
+  come q (suc k) l b =
+      ap (λ (j : ℕ). place_from q j (drop j (live t ws n))) (sym (add-one k))
+      ∙ scan-on h q k (come q k (omega arith) (λ j z m. b j z (omega arith))) (omega arith) (b k (omega arith) (omega arith))
+
   -- what `find` answers
   pub place-found : (q : A → Bool) (i : ℕ) → i < n → q (get_or (rows_of t ws) i t.blank) ≡ true
       → ((k : ℕ) → 0 ≤ k → k < i → q (get_or (rows_of t ws) k t.blank) ≡ false) → first_at q (live t ws n) ≡ Some i
-  place-found q i l e b =
-      first-hit q (live t ws n) t.blank i (omega (arith, held-length h)) (ap q (held_at h i t.blank l) ∙ e)
-      (λ k m. ap q (held_at h k t.blank (omega arith)) ∙ b k (omega arith) m)
+  place-found q i l e b = sym (scan-here h q i (come q i (omega arith) b) l e)
 
   pub place-missed : (q : A → Bool) → ((k : ℕ) → 0 ≤ k → k < n → q (get_or (rows_of t ws) k t.blank) ≡ false) → first_at q (live t ws n) ≡ None
-  place-missed q b =
-      first-none q (live t ws n) t.blank (λ k m. let l : k < n = omega (arith, held-length h) in ap q (held_at h k t.blank l) ∙ b k (omega arith) l)
+  place-missed q b = sym (scan-end h q n (come q n (omega arith) b) (omega arith))
 
   -- what `any` answers, and `filter` with `count`
   pub any-place : (q : A → Bool) → list_any (λ k. q (get_or (rows_of t ws) k t.blank)) (range_with_len 0 n) ≡ any_of q (live t ws n)
@@ -110,9 +95,16 @@ module _ {A : Type 0} {t : Table A} {ws : List ℕ} {n : ℕ} (h : Held t ws n) 
   pub count-places : (q : A → Bool) → length (filter (λ k. q (get_or (rows_of t ws) k t.blank)) (range_with_len 0 n)) ≡ count q (live t ws n)
   count-places q = count-map q row (range_with_len 0 n) ∙ ap (count q) (sym live-made)
 
-  -- what `rev` with `fold` answers
+  -- what `rev` with `fold` answers: the fold has come down to place m
   pub fold-places : {B : Type 0} (f : A → B → B) (z : B) → std.fold (λ b k. f (get_or (rows_of t ws) k t.blank) b) z (falling 0 n) ≡ fold f z (live t ws n)
-  fold-places f z = fold-falling f row n z ∙ ap (fold f z) (sym live-made)
+  fold-places {B} f z = down n z (omega arith) (fold_start h f z)
+    where
+      down : (m : ℕ) (b : B) → m ≤ n → b ≡ fold f z (drop m (live t ws n)) → std.fold (λ c k. f (row k) c) b (falling 0 m) ≡ fold f z (live t ws n)
+      down zero b l e = fold_end h f z 0 b (omega arith) e
+      down (suc m) b l e =
+          let k : suc m - 1 ≡ m = omega arith in
+          down m (f (row (0 + m)) b) (omega arith)
+          (ap (λ (j : ℕ). f (row j) b) (zero-add m ∙ sym k) ∙ fold-turn h f z (suc m) b (omega arith) l e ∙ ap (λ (j : ℕ). fold f z (drop j (live t ws n))) k)
 
   -- ---- the chains themselves, by what the closure answers at a place
 

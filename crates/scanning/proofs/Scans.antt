@@ -12,7 +12,7 @@ use Rattle.rows.specs.Tables.{rows_of, live, words_for, Held, Holds}
 use Rattle.rows.specs.Moves.{first_at, first_of, any_of, at_first, has_id}
 use Rattle.rows.specs.declared.Turn.{Turn}
 use Rattle.rows.specs.declared.Turn.TheVariants.{Keeps}
-use Rattle.rows.proofs.Promises.{held-length, held_at, find_first, first_found, first-missed}
+use Rattle.rows.proofs.Promises.{held-length, held_at, here-some, nowhere-none, find_first, first_found, first-missed}
 use Rattle.tables.specs.Layouts.{unicast_table}
 use Rattle.sending.specs.Types.{Unicast}
 
@@ -26,16 +26,16 @@ sends ws n = live unicast_table ws n
 -- ---- what find and the scans answer
 
 pub find-here : (ws : List ℕ) (n id : ℕ) {p : Option ℕ} (i : ℕ) → p ≡ find_by unicast_id id (sends ws n) → p ≡ Some i → first_at (has_id unicast_entry id) (sends ws n) ≡ Some i
-find-here ws n id i e f = sym (find_first unicast_id id (sends ws n)) ∙ (sym e ∙ f)
+find-here ws n id i e f = sym (find_first unicast_id id (sends ws n)) ∙ here-some _ _ (sym f ∙ e)
 
 pub find-nowhere : (ws : List ℕ) (n id : ℕ) {p : Option ℕ} → p ≡ find_by unicast_id id (sends ws n) → p ≡ None → first_at (has_id unicast_entry id) (sends ws n) ≡ None
-find-nowhere ws n id e f = sym (find_first unicast_id id (sends ws n)) ∙ (sym e ∙ f)
+find-nowhere ws n id e f = sym (find_first unicast_id id (sends ws n)) ∙ nowhere-none _ (sym f ∙ e)
 
 pub scan-some : (q : Unicast → Bool) (ws : List ℕ) (n : ℕ) {p : Option ℕ} (i : ℕ) → p ≡ first_at q (sends ws n) → p ≡ Some i → first_at q (sends ws n) ≡ Some i
-scan-some q ws n i e f = (sym e ∙ f)
+scan-some q ws n i e f = here-some _ _ (sym f ∙ e)
 
 pub scan-none : (q : Unicast → Bool) (ws : List ℕ) (n : ℕ) {p : Option ℕ} → p ≡ first_at q (sends ws n) → p ≡ None → first_at q (sends ws n) ≡ None
-scan-none q ws n e f = (sym e ∙ f)
+scan-none q ws n e f = nowhere-none _ (sym f ∙ e)
 
 module _ {ws : List ℕ} {n : ℕ} (h : Held unicast_table ws n) (q : Unicast → Bool) where
   -- the place is live, and is below the room

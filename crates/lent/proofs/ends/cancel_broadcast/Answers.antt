@@ -7,7 +7,7 @@ use Rattle.records.specs.Records.{blank_broadcast, broadcast_id, broadcast_entry
 use Rattle.rows.specs.Lists.{lookup}
 use Rattle.rows.specs.Tables.{rows_of, live}
 use Rattle.rows.specs.Moves.{any_of, has_id}
-use Rattle.rows.proofs.Promises.{hit-lookup, miss-lookup, held-holds}
+use Rattle.rows.proofs.Promises.{here-some, nowhere-none, hit-lookup, miss-lookup, held-holds}
 use Rattle.tables.specs.Layouts.{unicast_table, broadcast_table}
 use Rattle.actions.proofs.Lines.{told-append}
 use Rattle.sending.specs.Rules.{sent_copy}
@@ -22,13 +22,13 @@ use Rattle.lent.proofs.ends.cancel_broadcast.Goals as goal
 pub returns-in-None : goal.returns-in-None
 returns-in-None c =
     let us = live unicast_table c.args.w.now c.args.c.unicasts in
-    let e = miss-lookup c.requires.broadcasts c.args.id ((sym c.find.ensures ∙ c.in-None.is)) in
+    let e = miss-lookup c.requires.broadcasts c.args.id (nowhere-none _ (sym c.in-None.is ∙ c.find.ensures)) in
     does-barred c.requires (cancel_broadcast (lent_model c.args.c c.args.w.now c.args.v.now c.args.d.now c.args.b.now) c.args.id) NoSuchSend (ap (cast_bar c.args.id us) e) refl refl refl c.denied.ensures
 
 pub returns-in-Some : goal.returns-in-Some
 returns-in-Some c =
     let us = live unicast_table c.args.w.now c.args.c.unicasts in
-    let e = hit-lookup c.requires.broadcasts c.args.id _ ((sym c.find.ensures ∙ c.in-Some.is)) in
+    let e = hit-lookup c.requires.broadcasts c.args.id _ (here-some _ _ (sym c.in-Some.is ∙ c.find.ensures)) in
     let t : any_of (sent_copy c.args.id) us ≡ true = sym c.copy_in_radio.ensures ∙ c.if-copy_in_radio.true in
     does-barred c.requires (cancel_broadcast (lent_model c.args.c c.args.w.now c.args.v.now c.args.d.now c.args.b.now) c.args.id) InTheRadio (ap (cast_bar c.args.id us) e ∙ cast-sent c.args.id us (get_or (rows_of broadcast_table c.args.b.now) c.in-Some.field-0 blank_broadcast) t) refl refl refl c.denied-in-Some.ensures
 
