@@ -40,12 +40,15 @@ pub fn next_wake(s: Sends) -> Option<u64>
     ends::next_wake(s.counts, &s.unicasts, &s.unrouted, &s.held, &s.broadcasts)
 }
 
+// Below and in `lists` the table that is asked is taken out of the state: lent as a part of it, it has the whole copied.
+
 // Whether the destination is held: its discovery is under way.
 pub fn has_unrouted(s: Sends, destination: u16) -> bool
     requires { Sound s }
     ensures { result ≡ is_held destination (model_of s).held }
 {
-    unrouted::is_held(&s.held, s.counts.held, destination)
+    let Sends { counts, held, .. } = s;
+    unrouted::is_held(&held, counts.held, destination)
 }
 
 // Whether a send awaits a poll of that address, is queued for it or in the radio.
@@ -53,5 +56,10 @@ pub fn has_unicast_awaiting_poll(s: Sends, a: Address) -> bool
     requires { Sound s }
     ensures { result ≡ any_of (pends a) (model_of s).unicasts }
 {
-    asks::has_awaiting(&s.unicasts, s.counts.unicasts, a)
+    let Sends {
+        counts,
+        unicasts,
+        ..
+    } = s;
+    asks::has_awaiting(&unicasts, counts.unicasts, a)
 }

@@ -13,23 +13,33 @@ use model::{Emptied, Sends};
 use sending::Book;
 
 // Every table is emptied, and each live send is listed: its id, then its waiter, from the list's start on. The next id stays.
-pub fn abandon(mut s: Sends, list: &mut [u64; 128]) -> Emptied
+pub fn abandon(s: Sends, list: &mut [u64; 128]) -> Emptied
     requires { Sound s }
     ensures value { result ≡ emptied_of (model_of s) }
     ensures left { Left (model_of s) list.old list.new result }
 {
+    let Sends {
+        counts,
+        mut unicasts,
+        mut unrouted,
+        mut held,
+        mut broadcasts,
+    } = s;
     let x = ends::abandon(
-        s.counts,
-        &mut s.unicasts,
-        &mut s.unrouted,
-        &mut s.held,
-        &mut s.broadcasts,
+        counts,
+        &mut unicasts,
+        &mut unrouted,
+        &mut held,
+        &mut broadcasts,
         list,
     );
     Emptied {
         sends: Sends {
             counts: x.counts,
-            ..s
+            unicasts,
+            unrouted,
+            held,
+            broadcasts,
         },
         listed: x.listed,
     }
@@ -40,7 +50,8 @@ pub fn unrouted_destinations(s: Sends, out: &mut [u16; 16]) -> usize
     requires { Sound s }
     ensures { Filled 0 (destinations_of (model_of s)) out.old out.new result }
 {
-    lists::destinations(&s.held, s.counts.held, out)
+    let Sends { counts, held, .. } = s;
+    lists::destinations(&held, counts.held, out)
 }
 
 // The keys whose quorum is awaited, by the broadcast's id, each as one word: source + 65536 * sequence.
@@ -48,7 +59,12 @@ pub fn broadcasts_awaiting_quorum(s: Sends, out: &mut [u64; 16]) -> usize
     requires { Sound s }
     ensures { Filled 0 (map quorum_word (awaited_of (model_of s).broadcasts)) out.old out.new result }
 {
-    lists::awaiting_quorum(&s.broadcasts, s.counts.broadcasts, out)
+    let Sends {
+        counts,
+        broadcasts,
+        ..
+    } = s;
+    lists::awaiting_quorum(&broadcasts, counts.broadcasts, out)
 }
 
 // The short or the extended addresses that the radio answers a poll from with frame pending, rising, each once; refused with
@@ -63,5 +79,10 @@ pub fn poll_addresses(
     requires { Sound s }
     ensures { Matching book eui.now nwk.now (model_of s).unicasts out.old out.new result }
 {
-    lists::poll_addresses(&s.unicasts, s.counts.unicasts, book, eui, nwk, out)
+    let Sends {
+        counts,
+        unicasts,
+        ..
+    } = s;
+    lists::poll_addresses(&unicasts, counts.unicasts, book, eui, nwk, out)
 }
