@@ -36,12 +36,14 @@ pub fn pending_for(h: UnicastHead) -> Address
     }
 }
 
+// A match, and no `==`: with that a scan for an address takes up to half as long again (docs/DESIGN-PASS.md).
 fn is_pending(h: UnicastHead, a: Address) -> bool
     ensures { result ≡ pends_head a h }
 {
-    match pending_for(h) {
-        Address::Absent => false,
-        pending @ (Address::Short(_) | Address::Extended(_)) => pending == a,
+    match (pending_for(h), a) {
+        (Address::Short(m), Address::Short(n)) => m == n,
+        (Address::Extended(x), Address::Extended(y)) => x == y,
+        _ => false,
     }
 }
 
