@@ -1,16 +1,15 @@
 -- The comparison of a case, byte by byte, and that it finds the run's answers and the stored ones the same exactly if they are. Assumes nothing.
 use Prim.Native.Nat.{ℕ, zero, suc, ◌+◌, ◌-◌, ◌≤◌, ◌<◌}
-use native.Mathlib.Nat.{zero-add, sub-zero}
+use native.Mathlib.Numerals.{add-one}
+use native.Mathlib.Nat.{add-zero, sub-zero}
 use native.Mathlib.Omega.{arith}
-use mathlib.Core.Path.{◌≡◌, refl, sym, ap, ap₂, subst, ◌∙◌}
+use mathlib.Core.Path.{◌≡◌, refl, sym, ap, ap₂, ◌∙◌}
 use mathlib.Core.Bool.{Bool, true, false, ◌&&◌}
 use mathlib.Core.Logic.{⊎_elim}
 use mathlib.Core.List.{List, [], ◌∷◌, ◌++◌, append_assoc}
 use lib.ListN.{length, get_or, take, drop, replicate, length-replicate, replicate-append-replicate}
+use lib.Seq.{drop-cons, get_or-drop, drop-drop}
 use lib.Dec.{eqb}
-use Rattle.std.specs.Bool.{MatchBool}
-use Rattle.std.specs.List.{range_with_len, AllWithin, HoldsAt}
-use Rattle.std.proofs.lemmas.List.FromFn.{length-range_with_len, get_or-range_with_len}
 use borrow.Author.Tests.{eq-eqb, ne_eqb, eqb-true}
 use Rattle.records.proofs.Cases.{eq-or-ne, both}
 use Rattle.runs.specs.Run.{run_bytes, Ran}
@@ -22,49 +21,20 @@ get_d-inside [] i d e h = absurd (omega arith)
 get_d-inside (x ∷ l) zero d e h = refl
 get_d-inside (x ∷ l) (suc i) d e h = get_d-inside l i d e (omega arith)
 
-never_both : (b : Bool) → b && false ≡ false
-never_both true = refl
-never_both false = refl
+-- ---- the loop: what is left to compare, from place i on
 
--- ---- an output holds the answers where each of its places has what is to stand there
+module _ (out answers : List ℕ) (i : ℕ) (h : i < length out) where
+  unroll : holds (drop i answers) (drop i out) ≡ eqb (get_or out i 0) (get_or answers i 165) && holds (drop (i + 1) answers) (drop (i + 1) out)
+  unroll =
+      ap (holds (drop i answers)) (drop-cons out i 0 h)
+      ∙ ap₂ (λ (x : ℕ) (l : List ℕ). eqb (get_or out i 0) x && holds l (drop (suc i) out)) (get_or-drop i answers 0 165 ∙ ap (λ (k : ℕ). get_or answers k 165) (add-zero i)) (drop-drop 1 i answers)
+      ∙ ap (λ (k : ℕ). eqb (get_or out i 0) (get_or answers i 165) && holds (drop (i + 1) answers) (drop k out)) (sym (add-one i))
 
-abbrev IsExpected : List ℕ → List ℕ → ℕ → Type 0
-IsExpected out answers i = get_or out i 0 ≡ get_or answers i 165
+  pub turn : get_or out i 0 ≡ get_or answers i 165 → holds (drop (i + 1) answers) (drop (i + 1) out) ≡ holds (drop i answers) (drop i out)
+  turn e = sym (unroll ∙ rw (eq-eqb _ _ e))
 
-behind : (answers : List ℕ) (i : ℕ) → get_or answers (suc i) 165 ≡ get_or (drop 1 answers) i 165
-behind [] i = refl
-behind (y ∷ answers) i = refl
-
-holds-all : (out answers : List ℕ) → ((i : ℕ) → i < length out → IsExpected out answers i) → holds answers out ≡ true
-holds-all [] answers h = refl
-holds-all (x ∷ out) answers h =
-    rw (eq-eqb x (get_or answers 0 165) (h 0 (omega arith))) (holds-all out (drop 1 answers) (λ i l. h (suc i) (omega arith) ∙ behind answers i))
-
-holds_not : (out answers : List ℕ) (i : ℕ) → i < length out → (IsExpected out answers i → ⊥) → holds answers out ≡ false
-holds_not [] answers i l n = absurd (omega arith)
-holds_not (x ∷ out) answers zero l n = rw (ne_eqb x (get_or answers 0 165) n) refl
-holds_not (x ∷ out) answers (suc i) l n =
-    ap (λ (b : Bool). eqb x (get_or answers 0 165) && b) (holds_not out (drop 1 answers) i (omega arith) (λ e. n (e ∙ sym (behind answers i)))) ∙ never_both (eqb x (get_or answers 0 165))
-
--- a test of every place has found it out
-places : List ℕ → List ℕ
-places out = range_with_len 0 (length out)
-
-place : (out : List ℕ) (i : ℕ) → i < length out → get_or (places out) i 0 ≡ i
-unfolding places
-place out i l = get_or-range_with_len 0 (length out) i 0 l ∙ zero-add i
-
-pub holds-by : (b : Bool) (out answers : List ℕ)
-    → MatchBool b (AllWithin (IsExpected out answers) (range_with_len 0 (length out)) 0 (length (range_with_len 0 (length out))))
-    ((i : ℕ) × (i < length (range_with_len 0 (length out))) × HoldsAt (λ j. IsExpected out answers j → ⊥) (range_with_len 0 (length out)) i)
-    → b ≡ holds answers out
-unfolding places
-holds-by true out answers h =
-    let many = length-range_with_len 0 (length out) in
-    sym (holds-all out answers (λ i l. subst (IsExpected out answers) (place out i l) (h i 0 (omega arith) (omega (arith, many)))))
-holds-by false out answers h =
-    let l : h.0 < length out = omega (arith, length-range_with_len 0 (length out), h.1) in
-    sym (holds_not out answers h.0 l (λ e. h.2 0 (subst (IsExpected out answers) (sym (place out h.0 l)) e)))
+  pub differs : (get_or out i 0 ≡ get_or answers i 165 → ⊥) → holds (drop i answers) (drop i out) ≡ false
+  differs n = unroll ∙ rw (ne_eqb _ _ n)
 
 -- ---- a case: the run's bytes and past them the pattern
 
@@ -83,6 +53,10 @@ other_length [] [] n = absurd (n refl)
 other_length [] (y ∷ a) n = refl
 other_length (x ∷ r) [] n = refl
 other_length (x ∷ r) (y ∷ a) n = ap (λ (b : Bool). eqb x y && b) (other_length r a (λ e. n (ap suc e))) ∙ never_both (eqb x y)
+  where
+    never_both : (b : Bool) → b && false ≡ false
+    never_both true = refl
+    never_both false = refl
 
 agreed : (r a : List ℕ) (k : ℕ) → agrees_of (r ++ replicate k 165) (length r) a ≡ same r a
 agreed r a k =

@@ -1,2 +1,3 @@
 -- The laws of a replay.
+pub mod Claimed
 pub mod Judged

@@ -14,7 +14,16 @@ fn expected(answers: &[u8], i: usize) -> u8
 fn agrees(out: &[u8], n: usize, answers: &[u8]) -> bool
     ensures { result ≡ agrees_of out.now n answers.now }
 {
-    n == answers.len() && (0..out.len()).all(|i| out[i] == expected(answers, i))
+    if n != answers.len() {
+        return false;
+    }
+    // a `for`: the chain with `all` takes twice as many instructions a byte (docs/DESIGN-PASS.md)
+    for i in 0..out.len() {
+        if out[i] != expected(answers, i) {
+            return false;
+        }
+    }
+    true
 }
 
 fn pattern() -> [u8; 4096]
