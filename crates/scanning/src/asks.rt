@@ -41,7 +41,13 @@ pub fn first_awaited(
     requires { Held unicast_table w.now n }
     ensures { result ≡ first_at (awaits eui nwk clock) (live unicast_table w.now n) }
 {
-    (0..n).find(|at| awaited_at(w, *at, eui, nwk, clock))
+    // a `for`: the place that is answered stands by itself, so that a slip there is a slip of value (edit poll_takes_another)
+    for k in 0..n {
+        if awaited_at(w, k, eui, nwk, clock) {
+            return Some(k);
+        }
+    }
+    None
 }
 
 // Whether a tick may change the send at a place.
