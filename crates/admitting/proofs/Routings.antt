@@ -10,7 +10,7 @@ use Rattle.std.specs.List.{count_by}
 use Rattle.std.proofs.lemmas.List.Recursion.{is_count_by}
 use borrow.Author.Tests.{eq-eqb, le-leb, lt-ltb, le-ltb}
 use Rattle.records.specs.Pick.{pick, bit}
-use Rattle.records.specs.Records.{unrouted_entry, destination_address}
+use Rattle.records.specs.Records.{unrouted_id, unrouted_entry, destination_address}
 use Rattle.rows.specs.Lists.{remove_by}
 use Rattle.rows.specs.Tables.{live, words_for, Held, Holds}
 use Rattle.rows.specs.Moves.{first_of, count}
@@ -24,7 +24,9 @@ use Rattle.unrouted.specs.Calls.{Taken}
 use Rattle.unrouted.proofs.Turns.{bit_le}
 use Rattle.model.specs.Model.{denied, lent_model, SoundTables, Does}
 use Rattle.model.specs.Calls.{late, only, reached, entering, failing, routing, route_of}
+use Rattle.model.specs.Sound.{Kept}
 use Rattle.model.proofs.Fews.{sweep-one}
+use Rattle.model.proofs.Kepts.{kept-only}
 use Rattle.model.proofs.Routings.{left-count}
 use Rattle.model.proofs.Routes.{entering-length}
 use Rattle.doing.specs.Types.{NoPlace, Accepted, Lapsed, Settings, Unicast, Unrouted, Resolved, Action, Counts}
@@ -145,6 +147,11 @@ module _ {s : Settings} {d now : ℕ} {results : List Resolved} {many : ℕ} {ws
     route-some l t e =
         let z : only (goes_to d) (live unrouted_table vs k) ≡ [] = none_only (goes_to d) (live unrouted_table vs k) (nothing-none _ (sym e ∙ t.answer)) in
         omega (arith, r.left, ap length z)
+
+    pub route-more : i < many → 1 ≤ k
+    route-more l =
+        let kept : Kept unrouted_id k (live unrouted_table vs k) = record { rising = r.unrouted.rising; within = omega (arith, held-length r.unrouted) } in
+        omega (arith, r.left, (kept-only unrouted_id (goes_to d) kept).within)
 
     pub route-turn : {ws' vs' buf' : List ℕ} {y : Option Unrouted} {e : Entered} (u : Unrouted) (x : Resolved) → i < many → Taken d vs k vs' y → y ≡ Some u
         → RoutedOne s now u (get_or results i x) ws n buf m ws' buf' e

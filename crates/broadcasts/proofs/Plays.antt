@@ -4,11 +4,11 @@ use native.Mathlib.Omega.{arith}
 use mathlib.Core.Path.{◌≡◌, refl, sym, ap, ◌∙◌, subst}
 use mathlib.Core.List.{List, [], ◌∷◌, ◌++◌, append_assoc}
 use lib.ListN.{length, get_or, set, length-set}
-use Rattle.records.specs.Records.{blank_broadcast, broadcast_entry}
+use Rattle.records.specs.Records.{blank_broadcast, broadcast_id, broadcast_entry}
 use Rattle.records.specs.declared.Entry.{Entry}
 use Rattle.records.specs.declared.Action.{Action}
 use Rattle.rows.specs.Lists.{remove_at}
-use Rattle.rows.specs.Tables.{Table, rows_of, live, Held, Holds}
+use Rattle.rows.specs.Tables.{Table, rows_of, live, Held, Holds, Stands}
 use Rattle.rows.specs.Moves.{kept, told, placed}
 use Rattle.rows.specs.declared.Turn.{Turn}
 use Rattle.rows.specs.declared.Turn.TheVariants.{Keeps, HandsOff, Settles}
@@ -102,6 +102,16 @@ module _ {A : Type 0} {t : Table A} {entry : A → Entry} {f : A → Turn A} {ws
           (rw j (sweep-goes s again v hop l e (subst (λ (a : ℕ). Holds t ws' a (remove_at i (live t ws n))) k p.table) p.tells))
 
 -- ---- a turn of a broadcast
+
+module _ {ws : List ℕ} {n m i : ℕ} {u : Broadcast} {x : Turn Broadcast} (p : Plays ws n m i u x) where
+  stands : {y : Broadcast} → Same broadcast_entry u (Keeps y) → Stands broadcast_table ws n i y
+  stands s = record { there = p.there; same = ap (λ (e : Entry). e.id) s ∙ ap broadcast_id p.is }
+
+  pub stands-kept : {y : Broadcast} → x ≡ Keeps y → Stands broadcast_table ws n i y
+  stands-kept e = stands (subst (Same broadcast_entry u) e p.same)
+
+  pub stands-handed : {y : Broadcast} → x ≡ HandsOff y → Stands broadcast_table ws n i y
+  stands-handed e = stands (subst (Same broadcast_entry u) e p.same)
 
 -- the turn of a rule at the record of a place
 module _ {ws : List ℕ} {n i : ℕ} {u : Broadcast} {x : Turn Broadcast} (f : Broadcast → Turn Broadcast) (is : u ≡ get_or (rows_of broadcast_table ws) i blank_broadcast) (e : x ≡ f u) where

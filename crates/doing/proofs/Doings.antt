@@ -4,11 +4,11 @@ use mathlib.Core.Path.{◌≡◌, refl, sym, ap, subst}
 use mathlib.Core.List.{List}
 use Rattle.rows.specs.Tables.{Holds}
 use Rattle.rows.proofs.Promises.{held-holds}
-use Rattle.tables.specs.Layouts.{unicast_table, broadcast_table}
+use Rattle.tables.specs.Layouts.{unicast_table, unrouted_table, destination_table, broadcast_table}
 use Rattle.actions.specs.Told.{Told}
 use Rattle.actions.proofs.Lines.{told_none}
-use Rattle.model.specs.Model.{Effect, with_unicasts, with_broadcasts, denied, done, answers, lent_model, SoundTables, Does}
-use Rattle.doing.specs.Types.{Unicast, Broadcast, Action, Answer, Accepted, Refusal, Counts, Did}
+use Rattle.model.specs.Model.{Effect, with_unicasts, with_unrouted, with_broadcasts, denied, done, answers, lent_model, SoundTables, Does}
+use Rattle.doing.specs.Types.{Unicast, Unrouted, Destination, Broadcast, Action, Answer, Accepted, Refusal, Counts, Did}
 use Rattle.doing.specs.Parts.{quietly, denied_by, with_unicast_count, with_broadcast_count}
 
 -- the effect may be given as another that is equal
@@ -51,6 +51,22 @@ module _ {c : Counts} {ws vs ds bs : List ℕ} (s : SoundTables c ws vs ds bs) w
         tells = t;
       }
 
+  -- only the unrouted sends and the held destinations change
+  pub does-unrouted : {us : List Unrouted} {hs : List Destination} {acts : List Action} {a : Answer} {vs' ds' buf buf' : List ℕ} {n m k : ℕ}
+      → Holds unrouted_table vs' n us → Holds destination_table ds' m hs → Told 0 acts buf buf' k
+      → Does (record { model = with_unrouted (lent_model c ws vs ds bs) us hs; answer = a; actions = acts }) buf ws vs' ds' bs buf'
+      (record { counts = record { next_id = c.next_id; unicasts = c.unicasts; unrouted = n; held = m; broadcasts = c.broadcasts }; answer = a; told = k })
+  does-unrouted h g t =
+      record {
+        next = refl;
+        unicasts = held-holds s.unicasts;
+        unrouted = h;
+        held = g;
+        broadcasts = held-holds s.broadcasts;
+        answer = refl;
+        tells = t;
+      }
+
   -- only the broadcasts change
   pub does-broadcasts : {us : List Broadcast} {acts : List Action} {a : Answer} {bs' buf buf' : List ℕ} {n k : ℕ} → Holds broadcast_table bs' n us → Told 0 acts buf buf' k
       → Does (record { model = with_broadcasts (lent_model c ws vs ds bs) us; answer = a; actions = acts }) buf ws vs ds bs' buf' (record { counts = with_broadcast_count c n; answer = a; told = k })
@@ -75,3 +91,12 @@ module _ {c : Counts} {ws vs ds bs : List ℕ} (s : SoundTables c ws vs ds bs) w
     pub done-broadcasts : Holds broadcast_table bs' n us → Told 0 acts buf buf' m
         → Does (done (with_broadcasts (lent_model c ws vs ds bs) us) acts) buf ws vs ds bs' buf' (record { counts = k; answer = Accepted; told = m })
     done-broadcasts h t = did-as (ap (λ (x : Counts). record { counts = x; answer = Accepted; told = m }) e) (does-broadcasts h t)
+
+  -- a call on one table that tells nothing
+  pub lent-unicasts : {us : List Unicast} {a : Answer} {ws' buf : List ℕ} {r : Did} → r ≡ quietly c a → Holds unicast_table ws' c.unicasts us
+      → Does (answers (with_unicasts (lent_model c ws vs ds bs) us) a) buf ws' vs ds bs buf r
+  lent-unicasts {us} {a} {ws'} {buf} e h = did-as e (does-unicasts h (told_none 0 buf))
+
+  pub lent-broadcasts : {us : List Broadcast} {a : Answer} {bs' buf : List ℕ} {r : Did} → r ≡ quietly c a → Holds broadcast_table bs' c.broadcasts us
+      → Does (answers (with_broadcasts (lent_model c ws vs ds bs) us) a) buf ws vs ds bs' buf r
+  lent-broadcasts {us} {a} {bs'} {buf} e h = did-as e (does-broadcasts h (told_none 0 buf))

@@ -1,4 +1,5 @@
 -- Answers that fit before the reserved end, and answers that do not. Assumes nothing.
+use Rattle.std.specs.Prelude.{Option, None, Some}
 use Prim.Native.Nat.{ℕ, ◌+◌, ◌-◌, ◌≤◌, ◌<◌}
 use native.Mathlib.Omega.{arith}
 use mathlib.Core.Path.{◌≡◌, sym, ap, ◌∙◌}
@@ -11,6 +12,7 @@ use Rattle.records.specs.Pick.{pick}
 use Rattle.answers.specs.Bytes.{Written}
 use Rattle.answers.specs.Items.{items_bytes}
 use Rattle.answers.proofs.Lists.{items-append}
+use Rattle.listings.specs.Listings.{wake_items}
 use Rattle.exchange.specs.Types.{Item, Done}
 use Rattle.exchange.specs.Answering.{Answering, overfull}
 
@@ -42,3 +44,8 @@ done-same is js e = done-bytes is ∙ ap (λ (l : List ℕ). l ++ (129 ∷ [])) 
 
 pub done-long : (is : List Item) → length (items_bytes (is ++ (Done ∷ []))) ≡ length (items_bytes is) + 1
 done-long is = ap length (done-bytes is) ∙ length-append (items_bytes is) (129 ∷ [])
+
+-- the time of a wake, or none, takes nine bytes at the most
+pub wake-short : (o : Option ℕ) → length (items_bytes (wake_items o)) ≤ 9
+wake-short None = omega arith
+wake-short (Some t) = omega arith

@@ -6,7 +6,7 @@ use mathlib.Core.Path.{◌≡◌, refl, sym, ap, ◌∙◌}
 use mathlib.Core.Bool.{Bool, true, false, ◌||◌}
 use mathlib.Core.List.{List}
 use borrow.Author.Tests.{ne_eqb}
-use lib.Dec.{T, eqb, ltb, eqb→eq}
+use lib.Dec.{T, eqb, ltb, eqb→eq, eqb_refl}
 use Rattle.records.specs.Pick.{pick, bit}
 use Rattle.records.specs.declared.Address.TheVariants.{Absent, Short, Extended}
 use Rattle.fields.specs.Bytes.{number}
@@ -15,6 +15,7 @@ use Rattle.events.specs.Events.{event_of}
 use Rattle.events.specs.Arrivals.{unicast_at, unicast_event, unicast_of, copy_event, copy_of, unrouted_with, unrouted_of, broadcast_with, broadcast_of}
 use Rattle.events.specs.Signals.{settings_of, dequeue_of, report_with, report_of, poll_with, poll_of, ack_event, ack_of, retry_of, fail_of, delivered_of, drop_with, drop_of, cancel_of, tick_of, pair_of, has_unrouted_of, awaiting_event, has_awaiting_of}
 use Rattle.events.specs.Routes.{entries_right, route_of}
+use Rattle.steps.specs.Applied.{Plain}
 use Rattle.exchange.specs.Types.{Event, OnSettings, OnUnicast, OnCopy, OnUnrouted, OnBroadcast, OnDequeue, OnReport, OnPoll, OnAck, OnRetry, OnFail, OnRoute, OnDelivered, OnDrop, OnCancel, OnTick, OnAbandon, OnNextWake, OnPair, OnLists, OnHasUnrouted, OnHasAwaiting, Malformed}
 use Rattle.exchange.specs.World.{is_own}
 use Rattle.records.specs.declared.Priority.{Priority}
@@ -121,6 +122,13 @@ or_right : (a b : Bool) → (a || b) ≡ false → b ≡ false
 or_right true b h = absurd (no (sym h))
 or_right false b h = h
 
+differs : (k n : ℕ) → eqb k n ≡ false → k ≡ n → ⊥
+differs k n h e = no (sym h ∙ ap (λ (m : ℕ). eqb m n) e ∙ same (eqb n n) (eqb_refl n))
+  where
+    same : (b : Bool) → T b → b ≡ true
+    same true t = refl
+    same false t = absurd t
+
 module _ (k : ℕ) (h : is_own k ≡ false) where
   not-1 : eqb k 1 ≡ false
   not-1 = or_left (eqb k 1) (eqb k 17 || (eqb k 18 || (eqb k 19 || eqb k 20))) h
@@ -145,6 +153,9 @@ module _ (k : ℕ) (h : is_own k ≡ false) where
 
   not-20 : eqb k 20 ≡ false
   not-20 = or_right (eqb k 19) (eqb k 20) after-18
+
+  pub own-plain : Plain k
+  own-plain = ((((differs k 1 not-1, differs k 17 not-17), differs k 18 not-18), differs k 19 not-19), differs k 20 not-20)
 
   pub event-call : (b : List ℕ) → is_call (event_of k b) ≡ true
   unfolding event_of unicast_of copy_of unrouted_of broadcast_of dequeue_of report_of poll_of ack_of retry_of fail_of route_of delivered_of drop_of cancel_of tick_of has_unrouted_of has_awaiting_of

@@ -180,6 +180,9 @@ two-words : (es : List Entry) → by_two (flat entry_words es) ≡ map (λ (e : 
 two-words [] = refl
 two-words (e ∷ es) = ap (λ (l : List Item). abandoned_item e.id e.waiter ∷ l) (two-words es)
 
+pub listed-long : {at : ℕ} {es : List Entry} {list list' : List ℕ} {n : ℕ} → Listed at es list list' n → length list' ≡ length list
+listed-long {at} {es} {list} {list'} {n} h = ap length h.words ∙ length-sets list (at * 2) (flat entry_words es)
+
 pub abandoned-bytes : {es : List Entry} {list list' : List ℕ} {n : ℕ} → Listed 0 es list list' n → length list ≡ 128 → length es ≤ 64
     → items_bytes (abandoned_items list' n) ≡ items_bytes (map abandonment es)
 abandoned-bytes {es} {list} {list'} {n} l e h =

@@ -40,13 +40,13 @@ module _ (n x y z : ℕ) (e : n ≡ x + 18446744073709551616 * (y + 4294967296 *
       ]
 
 module _ (at : ℕ) (b : List ℕ) (h : at + 14 ≤ length b) where
-  first : (x : ℕ) → x ≡ number 8 at b → (x ≡ 0 → ⊥) → false ≡ eqb (number 14 at b) 0
+  pub first : (x : ℕ) → x ≡ number 8 at b → (x ≡ 0 → ⊥) → false ≡ eqb (number 14 at b) 0
   first x e n = first-told _ _ _ _ (split at b h) (λ k. n (e ∙ k))
 
-  second : (y : ℕ) → y ≡ number 4 (at + 8) b → (y ≡ 0 → ⊥) → false ≡ eqb (number 14 at b) 0
+  pub second : (y : ℕ) → y ≡ number 4 (at + 8) b → (y ≡ 0 → ⊥) → false ≡ eqb (number 14 at b) 0
   second y e n = second-told _ _ _ _ (split at b h) (λ k. n (e ∙ k))
 
-  third : (x y z : ℕ) → x ≡ number 8 at b → y ≡ number 4 (at + 8) b → z ≡ number 2 (at + 12) b → x ≡ 0 → y ≡ 0 → eqb z 0 ≡ eqb (number 14 at b) 0
+  pub third : (x y z : ℕ) → x ≡ number 8 at b → y ≡ number 4 (at + 8) b → z ≡ number 2 (at + 12) b → x ≡ 0 → y ≡ 0 → eqb z 0 ≡ eqb (number 14 at b) 0
   third x y z e f g p q = ap (λ (k : ℕ). eqb k 0) g ∙ third-told _ _ _ _ (split at b h) (sym e ∙ p) (sym f ∙ q)
 
   pub zeros : (x y z : ℕ) → x ≡ number 8 at b → y ≡ number 4 (at + 8) b → z ≡ number 2 (at + 12) b → ((eqb x 0 && eqb y 0) && eqb z 0) ≡ eqb (number 14 at b) 0

@@ -74,6 +74,10 @@ module _ {x : Option QuorumKey} (out : List ℕ) (m : ℕ) where
   pub fill-key : {v : ℕ} (k : QuorumKey) → x ≡ Some k → v ≡ quorum_word k → Filled m (map quorum_word (listed x [])) out (set out m v) (m + 1)
   fill-key k e q = rw (e, q) (record { words = refl; next = refl })
 
+pub key-low : (x : Option QuorumKey) → length (map quorum_word (listed x [])) ≤ 1
+key-low None = omega arith
+key-low (Some k) = omega arith
+
 module _ {ws : List ℕ} {n : ℕ} (h : Held broadcast_table ws n) (i : ℕ) where
   pub keys-left : (x : Option QuorumKey) → i < n → x ≡ awaited_head (broadcast_head (row_at ws i))
       → map quorum_word (awaited_of (drop i (live broadcast_table ws n)))

@@ -57,6 +57,18 @@ missing x (k ∷ ks) zero h b a =
 missing x (k ∷ ks) (suc p) h b a =
     rw (lt-ltb k x (b 0 (omega arith))) (missing x ks p (omega arith) (λ i l. b (suc i) (omega arith)) (λ l. a (omega arith)))
 
+pub there-past : (x : ℕ) (ks : List ℕ) → length ks ≤ place_in x ks → is_there x ks ≡ false
+there-past x [] h = refl
+there-past x (k ∷ ks) h = by-test (ltb k x) refl (λ g. there-past x ks g)
+  where
+    by-test : (b : Bool) → ltb k x ≡ b → (length ks ≤ place_in x ks → is_there x ks ≡ false) → is_there x (k ∷ ks) ≡ false
+    by-test true e ih =
+        let g : suc (length ks) ≤ suc (place_in x ks) = rw e at h in
+        rw e (ih (omega arith))
+    by-test false e ih =
+        let g : suc (length ks) ≤ 0 = rw e at h in
+        absurd (omega arith)
+
 -- ---- an address that is there
 
 pub there-low : (x : ℕ) (ks : List ℕ) → is_there x ks ≡ true → place_in x ks < length ks
@@ -259,6 +271,13 @@ module _ {n : ℕ} {es ns : List ℕ} (s : MapSound es ns n) where
       let l = place-low x (take n es) in
       omega arith
 
+  pub place-there : (x p : ℕ) → p ≡ place_in x (take n es) → is_there x (take n es) ≡ true → p < 32
+  place-there x p e t =
+      let c = keys-count in
+      let f = s.few in
+      let l = there-low x (take n es) t in
+      omega arith
+
   pub below-room : (n ≡ 32 → ⊥) → n < 32
   below-room h =
       let f = s.few in
@@ -425,3 +444,20 @@ above-none x q (k ∷ ks) (m ∷ ms) l h =
 rises-tail : (k : ℕ) (ks : List ℕ) → rises_after k ks ≡ true → rises_all ks ≡ true
 rises-tail k [] h = refl
 rises-tail k (j ∷ ks) h = (pick-both (ltb k j) (rises_after j ks) h).1
+
+pub absent_none : (x : ℕ) (ks ms : List ℕ) → rises_all ks ≡ true → is_there x ks ≡ false → mapped_in x ks ms ≡ None
+absent_none x [] ms h t = refl
+absent_none x (k ∷ ks) [] h t = refl
+absent_none x (k ∷ ks) (m ∷ ms) h t = by-test (ltb k x) refl (λ u. absent_none x ks ms (rises-tail k ks h) u)
+  where
+    by-test : (b : Bool) → ltb k x ≡ b → (is_there x ks ≡ false → mapped_in x ks ms ≡ None) → mapped_in x (k ∷ ks) (m ∷ ms) ≡ None
+    by-test true e ih =
+        let a = ltb-true k x e in
+        let g : eqb k x ≡ false = ne_eqb k x (λ q. absurd (omega arith)) in
+        rw g (ih (rw e at t))
+    by-test false e ih =
+        let f : eqb k x ≡ false = rw e at t in
+        let a = ltb-false k x e in
+        let n : k ≡ x → ⊥ = eqb-false k x f in
+        let l : x < k = omega (arith, n) in
+        rw f (above-none x k ks ms l h)

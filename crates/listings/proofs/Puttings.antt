@@ -1,5 +1,5 @@
 -- Items of a list written in turn, by what is left of it; and the items of the first n numbers: how many, which, and how long. Assumes nothing.
-use Rattle.std.specs.Prelude.{Option, None, Some}
+use Rattle.std.specs.Prelude.{Some}
 use Prim.Native.Nat.{ℕ, zero, suc, ◌+◌, ◌*◌, ◌≤◌, ◌<◌}
 use native.Mathlib.Nat.{add-zero, add_assoc, add_comm, suc-mul}
 use native.Mathlib.Omega.{arith}
@@ -10,9 +10,8 @@ use lib.Seq.{sets, length-sets, length-take-le, drop-cons}
 use Rattle.rows.proofs.Sets.{sets-append}
 use Rattle.answers.specs.Bytes.{Written}
 use Rattle.answers.specs.Items.{item_bytes, items_bytes}
-use Rattle.answers.proofs.Writings.{written_as, written-nothing}
-use Rattle.answers.proofs.Lists.{items-one}
-use Rattle.listings.specs.Types.{Item, Done, Time}
+use Rattle.answers.proofs.Writings.{written_as}
+use Rattle.listings.specs.Types.{Item, Done}
 use Rattle.listings.specs.Listings.{short_item, long_item, destination_item, key_item, abandoned_item, short_items, long_items, destination_items, key_items, by_two, abandoned_items, wake_items}
 
 -- ---- what is left of a list of items
@@ -77,11 +76,22 @@ module _ {is : List Item} {n at₀ : ℕ} {out₀ out : List ℕ} {at i : ℕ} (
 
 -- ---- the items of the first n numbers
 
+-- how many
+pub map-count : (f : ℕ → Item) (xs : List ℕ) (n : ℕ) → n ≤ length xs → n ≡ length (map f (take n xs))
+map-count f xs n h = sym (length-map (take n xs) f ∙ length-take-le n xs h)
+
 -- which
-map-item : (f : ℕ → Item) (ks : List ℕ) (i : ℕ) → i < length ks → get_or (map f ks) i Done ≡ f (get_or ks i 0)
-map-item f [] i l = absurd (omega arith)
-map-item f (k ∷ ks) zero l = refl
-map-item f (k ∷ ks) (suc i) l = map-item f ks i (omega arith)
+pub map-item : (f : ℕ → Item) (xs : List ℕ) (n i : ℕ) → n ≤ length xs → i < n → get_or (map f (take n xs)) i Done ≡ f (get_or xs i 0)
+map-item f [] n i h l = absurd (omega arith)
+map-item f (x ∷ xs) zero i h l = absurd (omega arith)
+map-item f (x ∷ xs) (suc n) zero h l = refl
+map-item f (x ∷ xs) (suc n) (suc i) h l = map-item f xs n i (omega arith) (omega arith)
+
+-- the same of a whole list
+item-at : (f : ℕ → Item) (ks : List ℕ) (i : ℕ) → i < length ks → get_or (map f ks) i Done ≡ f (get_or ks i 0)
+item-at f [] i l = absurd (omega arith)
+item-at f (k ∷ ks) zero l = refl
+item-at f (k ∷ ks) (suc i) l = item-at f ks i (omega arith)
 
 -- the next number's item fits, and writing it leaves what is behind it
 module _ (f : ℕ → Item) (xs : List ℕ) {n at₀ : ℕ} {out₀ out : List ℕ} {at i : ℕ} (p : Putting (map f (take n xs)) n at₀ out₀ out at i) (l : i < length (take n xs)) where
@@ -89,10 +99,10 @@ module _ (f : ℕ → Item) (xs : List ℕ) {n at₀ : ℕ} {out₀ out : List �
   below = omega (arith, p.count, length-map (take n xs) f)
 
   pub number-room : at₀ + length (items_bytes (map f (take n xs))) ≤ length out₀ → at + length (item_bytes (f (get_or (take n xs) i 0))) ≤ length out
-  number-room b = put-room p below (map-item f (take n xs) i l) b
+  number-room b = put-room p below (item-at f (take n xs) i l) b
 
   pub number-turn : {out' : List ℕ} {r : ℕ} → Written at (item_bytes (f (get_or (take n xs) i 0))) out out' r → Putting (map f (take n xs)) n at₀ out₀ out' r (i + 1)
-  number-turn w = put-turn p below (map-item f (take n xs) i l) w
+  number-turn w = put-turn p below (item-at f (take n xs) i l) w
 
 -- how long, where every item has k bytes
 pub map-long : (f : ℕ → Item) (k : ℕ) → ((x : ℕ) → length (item_bytes (f x)) ≡ k) → (xs : List ℕ) (n : ℕ) → n ≤ length xs

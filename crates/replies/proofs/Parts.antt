@@ -12,10 +12,10 @@ use Rattle.rows.proofs.Sets.{sets-append}
 use Rattle.actions.specs.Told.{action_at}
 use Rattle.answers.specs.Bytes.{Written}
 use Rattle.answers.specs.Items.{item_bytes, items_bytes, action_item, action_bytes, actions_bytes}
-use Rattle.answers.proofs.Writings.{written-nothing, written_as}
+use Rattle.answers.proofs.Writings.{written_as}
 use Rattle.answers.proofs.Sizes.{flight-long, action-short}
 use Rattle.answers.proofs.Lists.{items-append, items-one, actions-items}
-use Rattle.replies.specs.Types.{Action, Answer, Denied, Accepted, Issued, Replied, NothingQueued, InFlight, Transmit, Item, Done, Flight}
+use Rattle.replies.specs.Types.{Action, Answer, Denied, Accepted, Issued, Replied, NothingQueued, InFlight, Transmit, Done, Flight}
 use Rattle.replies.specs.Replies.{acts_from, acts_of, denies, answer_items, reply_bytes}
 
 -- ---- what is left of the actions
@@ -137,3 +137,15 @@ reply-long a acts e =
     let q = length-append x (y ++ item_bytes Done) in
     let r = length-append y (item_bytes Done) in
     p ∙ q ∙ ap (λ (k : ℕ). length x + k) r ∙ omega arith
+
+-- the answer first: it fits where the reply does
+pub first_fits : (a : Answer) (acts : List Action) → length (items_bytes (answer_items a)) ≤ length (reply_bytes a acts)
+first_fits a acts = by-test (denies a) refl
+  where
+    by-test : (b : Bool) → denies a ≡ b → length (items_bytes (answer_items a)) ≤ length (reply_bytes a acts)
+    by-test true e =
+        let f = ap length (reply-alone a acts e) in
+        omega arith
+    by-test false e =
+        let f = reply-long a acts e in
+        omega arith

@@ -1,7 +1,7 @@
 -- Rows of words: what is read out of them, and where a search by the first word of each has come to. Assumes nothing.
 use Rattle.std.specs.Prelude.{None, Some}
 use Prim.Native.Nat.{ℕ, zero, suc, ◌+◌, ◌-◌, ◌*◌, ◌≤◌, ◌<◌}
-use native.Mathlib.Nat.{zero-mul, suc-mul, add-mul, add_comm, add-zero}
+use native.Mathlib.Nat.{zero-mul, suc-mul, add-mul, add_comm, add-zero, mul-le-mul_right}
 use native.Mathlib.Numerals.{add-one}
 use native.Mathlib.Omega.{arith}
 use mathlib.Core.Path.{◌≡◌, refl, sym, ap, ◌∙◌}
@@ -45,6 +45,11 @@ module _ {width n : ℕ} {ws : List ℕ} (s : Searched width n ws) where
   -- the place is among the rows, or behind the last
   pub search-le : (key : ℕ) → place_of first_word key rows ≤ n
   search-le key = omega (arith, place-le first_word key rows, length-rows width itself n ws)
+
+  pub row_fits : (i : ℕ) → i < n → i * width < length ws
+  row_fits i h =
+      let m : suc i * width ≤ n * width = mul-le-mul_right width h in
+      omega (arith, s.wide, s.there, suc-mul i width)
 
   first-word : (i : ℕ) → i < n → first_word (get_or rows i []) ≡ get_or ws (i * width) 0
   first-word i h =

@@ -1,11 +1,11 @@
 -- Words written one after the other: a run of them behind another, a copy within the words, and a part that is written over. Assumes nothing.
-use Prim.Native.Nat.{ℕ, suc, ◌+◌, ◌≤◌}
+use Prim.Native.Nat.{ℕ, suc, ◌+◌, ◌≤◌, ◌<◌}
 use native.Mathlib.Nat.{add-zero, add-suc, suc-add, zero-add}
 use native.Mathlib.Omega.{arith}
 use mathlib.Core.Path.{◌≡◌, refl, sym, ap, ◌∙◌}
 use mathlib.Core.List.{List, [], ◌∷◌, ◌++◌}
 use lib.ListN.{length, take, drop, set, length-drop}
-use lib.Seq.{sets, sets-eq, length-sets, paste, length-take-le}
+use lib.Seq.{sets, sets-eq, length-sets, paste, set_comm, length-take-le}
 use borrow.Rule.Slice.PartMut.{put_mid}
 use Rattle.std.proofs.Common.{append_assoc}
 use Rattle.std.proofs.lemmas.List.Edits.{paste_all}
@@ -22,6 +22,18 @@ module _ {A : Type 0} where
   sets-front l vs h =
       let b : 0 + length vs ≤ length l = omega arith in
       sets-eq vs l 0 b ∙ ap (λ (j : ℕ). vs ++ drop j l) (zero-add (length vs))
+
+  -- a word written behind those that are written, first or last
+  pub set-sets : (l : List A) (o : ℕ) (vs : List A) (i : ℕ) (x : A) → o + length vs ≤ i → set (sets l o vs) i x ≡ sets (set l i x) o vs
+  set-sets l o [] i x h = refl
+  set-sets l o (v ∷ vs) i x h =
+      set-sets (set l o v) (suc o) vs i x (omega arith) ∙ ap (λ (m : List A). sets m (suc o) vs) (set_comm l o i v x (λ e. omega arith))
+
+  -- the same before them
+  pub set-sets-before : (l : List A) (o : ℕ) (vs : List A) (i : ℕ) (x : A) → i < o → set (sets l o vs) i x ≡ sets (set l i x) o vs
+  set-sets-before l o [] i x h = refl
+  set-sets-before l o (v ∷ vs) i x h =
+      set-sets-before (set l o v) (suc o) vs i x (omega arith) ∙ ap (λ (m : List A). sets m (suc o) vs) (set_comm l o i v x (λ e. omega arith))
 
   pub length_moved : (to from count : ℕ) (l : List A) → length (moved to from count l) ≡ length l
   length_moved to from count l = length-sets l to (take count (drop from l))

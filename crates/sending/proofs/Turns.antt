@@ -11,10 +11,16 @@ use Rattle.records.specs.Records.{unicast_entry}
 use Rattle.rows.specs.declared.Turn.TheVariants.{Keeps, Settles}
 use Rattle.rows.specs.Moves.{Same, any_of}
 use Rattle.tables.specs.Layouts.{unicast_head}
-use Rattle.sending.specs.Types.{Address, Absent, Short, Extended, Confirm, OnHandoff, ApsAck, Stage, Queued, Transmitting, Retrying, AwaitingPoll, AwaitingApsAck, Unicast, TxResult, ApsAckTimeout, Cancelled, Failure, UnicastHead, Due, Leave, Requeue, Finish, Which, Lapsed, Dropped, CopyOf}
-use Rattle.sending.specs.Rules.{with_stage, is_awaiting, is_acking, lend_turn, poll_turn, ack_by, ack_turn, hand_off_by, fail_held, fail_by, report_sent, report_by, report_turn, unsent, requeued, lapse_by, lapse_turn, tick_turn, retries, stirs, under, drop_turn, cancel_turn, copies, copy_turn, pending_head, names, beside, tick_due, due_head, due_turn, sweep_turn}
+use Rattle.sending.specs.Types.{Address, Absent, Short, Extended, AckKey, Confirm, OnHandoff, ApsAck, Stage, Queued, Transmitting, Retrying, AwaitingPoll, AwaitingApsAck, Unicast, TxResult, ApsAckTimeout, Cancelled, Failure, UnicastHead, Due, Leave, Requeue, Finish, Which, Lapsed, Dropped, CopyOf, Sought}
+use Rattle.sending.specs.Rules.{with_stage, is_awaiting, is_acking, lend_turn, poll_turn, keyed_by, keyed, ack_by, ack_turn, hand_off_by, fail_held, fail_by, report_sent, report_by, report_turn, unsent, requeued, lapse_by, lapse_turn, tick_turn, retries, stirs, under, drop_turn, cancel_turn, copies, copy_turn, pending_head, names, beside, sought_head, sought, tick_due, due_head, due_turn, sweep_turn}
 
 -- ---- what the code read
+
+pub sought-is : (s : Sought) (u : Unicast) {h : UnicastHead} {r b : Bool} → h ≡ unicast_head u → r ≡ sought_head s h → r ≡ b → sought s u ≡ b
+sought-is s u e f g = ap (sought_head s) (sym e) ∙ sym f ∙ g
+
+pub keyed-is : (k : AckKey) (u : Unicast) {c : Confirm} {r b : Bool} → c ≡ u.confirm → r ≡ keyed_by k c → r ≡ b → keyed k u ≡ b
+keyed-is k u e f g = ap (keyed_by k) (sym e) ∙ sym f ∙ g
 
 pub due-is : (which : Which) (u : Unicast) {h : UnicastHead} {d : Due} (x : Due) → h ≡ unicast_head u → d ≡ due_head which h → d ≡ x → sweep_turn which u ≡ due_turn x u
 due-is which u x e f g = ap (λ (y : Due). due_turn y u) (ap (due_head which) (sym e) ∙ sym f ∙ g)

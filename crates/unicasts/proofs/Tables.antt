@@ -11,7 +11,7 @@ use Rattle.rows.specs.Tables.{Held, Stands}
 use Rattle.rows.specs.Moves.{first_at, first_of, any_of, has_id}
 use Rattle.rows.specs.declared.Turn.{Turn}
 use Rattle.tables.specs.Layouts.{unicast_table}
-use Rattle.actions.specs.Calls.{Played}
+use Rattle.actions.specs.Calls.{Swept, Played}
 use Rattle.actions.proofs.Sweeps.{turn-found}
 use Rattle.sending.specs.Types.{Unicast, Refusal}
 use Rattle.sending.specs.Rules.{beside}
@@ -32,6 +32,12 @@ module _ {ws buf ws' buf' : List ℕ} {n m n' m' i : ℕ} where
   played-as {x} {y} {u} {v} e p s =
       subst (λ (a : Turn Unicast). Played unicast_table unicast_entry a i v ws n buf m ws' n' buf' m') e
       (subst (λ (b : Unicast). Played unicast_table unicast_entry x i b ws n buf m ws' n' buf' m') p s)
+
+module _ {ws buf ws' buf' : List ℕ} {n m n' m' : ℕ} where
+  -- a sweep with the same turns
+  pub swept_as : {f g : Unicast → Turn Unicast} → ((u : Unicast) → f u ≡ g u) → Swept unicast_table unicast_entry f ws n buf m ws' n' buf' m'
+      → Swept unicast_table unicast_entry g ws n buf m ws' n' buf' m'
+  swept_as {f} {g} p s = subst (λ (a : Unicast → Turn Unicast). Swept unicast_table unicast_entry a ws n buf m ws' n' buf' m') (λ k u. p u k) s
 
 -- ---- a call by id
 

@@ -5,7 +5,7 @@ use mathlib.Core.Path.{◌≡◌, refl, sym, ap, subst, ◌∙◌}
 use mathlib.Core.Bool.{Bool, true, false}
 use mathlib.Core.List.{List, []}
 use lib.ListN.{length}
-use lib.Seq.{sets}
+use lib.Seq.{sets, length-sets}
 use Rattle.records.specs.Pick.{pick}
 use Rattle.records.specs.Numbers.{default_settings}
 use Rattle.records.specs.declared.Settings.{Settings}
@@ -75,10 +75,25 @@ module _ {items : List Item} {at : ℕ} {out out' : List ℕ} {r : ℕ} (a : Ans
       go true f = absurd (e (a.wrote ∙ ap by_full f))
       go false f = (f, (a.wrote ∙ ap by_full f, a.bytes ∙ ap out_full f))
 
+  -- the output keeps its length
+  pub answering-long : length out' ≡ length out
+  answering-long = go full refl
+    where
+      go : (b : Bool) → full ≡ b → length out' ≡ length out
+      go true f = ap length (a.bytes ∙ ap out_full f)
+      go false f = ap length (a.bytes ∙ ap out_full f) ∙ length-sets out at (items_bytes items)
+
 -- ---- from a turn on
 
 module _ {s d₀ d : List ℕ} {c : Counts} {ws vs ds bs told : List ℕ} {t : Settings} {es ns : List ℕ} {pairs at o : ℕ}
     (i : Walking s d₀ d c ws vs ds bs told t es ns pairs at o) where
+  -- six bytes are left
+  pub six-left : o + 6 ≤ length d
+  six-left =
+      let r = i.running.room in
+      let l = i.running.long in
+      omega arith
+
   module _ {kind begin next : ℕ} {st : Step} (e : stands_at s at ≡ Record kind begin next)
       (f : st ≡ step_by (world_of c ws vs ds bs t es ns pairs) kind (body_in s begin next))
       {ws' vs' ds' bs' es' ns' told' d' : List ℕ} {x : Left} (h : Turned st o d ws' vs' ds' bs' es' ns' told' d' x) where
