@@ -36,7 +36,7 @@ pub fn pending_for(h: UnicastHead) -> Address
     }
 }
 
-// A match, and no `==`: with that a scan for an address takes up to half as long again (docs/DESIGN-PASS.md).
+// A match, and no `==`: with that a scan for an address takes up to 1.7 times as long (docs/DESIGN-PASS.md).
 fn is_pending(h: UnicastHead, a: Address) -> bool
     ensures { result ≡ pends_head a h }
 {
