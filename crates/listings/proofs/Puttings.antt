@@ -6,7 +6,7 @@ use native.Mathlib.Omega.{arith}
 use mathlib.Core.Path.{◌≡◌, refl, sym, ap, ap₂, ◌∙◌}
 use mathlib.Core.List.{List, [], ◌∷◌, ◌++◌, map}
 use lib.ListN.{length, take, drop, get_or, length-append, length-map, drop_of_length-le}
-use lib.Seq.{sets, length-sets, length-take-le, drop-cons}
+use lib.Seq.{sets, length-sets, length-take-le, get_or-take, drop-cons}
 use Rattle.rows.proofs.Sets.{sets-append}
 use Rattle.answers.specs.Bytes.{Written}
 use Rattle.answers.specs.Items.{item_bytes, items_bytes}
@@ -80,18 +80,15 @@ module _ {is : List Item} {n at₀ : ℕ} {out₀ out : List ℕ} {at i : ℕ} (
 pub map-count : (f : ℕ → Item) (xs : List ℕ) (n : ℕ) → n ≤ length xs → n ≡ length (map f (take n xs))
 map-count f xs n h = sym (length-map (take n xs) f ∙ length-take-le n xs h)
 
--- which
-pub map-item : (f : ℕ → Item) (xs : List ℕ) (n i : ℕ) → n ≤ length xs → i < n → get_or (map f (take n xs)) i Done ≡ f (get_or xs i 0)
-map-item f [] n i h l = absurd (omega arith)
-map-item f (x ∷ xs) zero i h l = absurd (omega arith)
-map-item f (x ∷ xs) (suc n) zero h l = refl
-map-item f (x ∷ xs) (suc n) (suc i) h l = map-item f xs n i (omega arith) (omega arith)
-
--- the same of a whole list
+-- which, of a whole list
 item-at : (f : ℕ → Item) (ks : List ℕ) (i : ℕ) → i < length ks → get_or (map f ks) i Done ≡ f (get_or ks i 0)
 item-at f [] i l = absurd (omega arith)
 item-at f (k ∷ ks) zero l = refl
 item-at f (k ∷ ks) (suc i) l = item-at f ks i (omega arith)
+
+-- which
+pub map-item : (f : ℕ → Item) (xs : List ℕ) (n i : ℕ) → n ≤ length xs → i < n → get_or (map f (take n xs)) i Done ≡ f (get_or xs i 0)
+map-item f xs n i h l = item-at f (take n xs) i (omega (arith, length-take-le n xs h)) ∙ ap f (get_or-take n xs i 0 l)
 
 -- the next number's item fits, and writing it leaves what is behind it
 module _ (f : ℕ → Item) (xs : List ℕ) {n at₀ : ℕ} {out₀ out : List ℕ} {at i : ℕ} (p : Putting (map f (take n xs)) n at₀ out₀ out at i) (l : i < length (take n xs)) where

@@ -40,7 +40,7 @@ pub fn next_wake(s: Sends) -> Option<u64>
     ends::next_wake(s.counts, &s.unicasts, &s.unrouted, &s.held, &s.broadcasts)
 }
 
-// Below and in `lists` the table that is asked is taken out of the state: lent as a part of it, it has the whole copied.
+// Below and in `lists` a question takes the table that it asks out of the state: one lent as a part of the state has the whole copied.
 
 // Whether the destination is held: its discovery is under way.
 pub fn has_unrouted(s: Sends, destination: u16) -> bool
